@@ -25,8 +25,12 @@ pub fn live_over<F: Files, D: Door, X: Disk, S: Source, K: Sink, E: Sink, H: Hal
     connections: u32,
     world: World<F, D, X, S, K, E, H>,
 ) -> Ended<F, D, X, S, K, E, H>
-    ensures runs { Runs (Some (Command.Live dir port connections rule.now.secret rule.now.unauthorized)) (⟦<World<F, D, X, S, K, E, H> as Observed>⟧.seen world) (⟦<World<F, D, X, S, K, E, H> as Observed>⟧.seen result.world) result.answer }
-    ensures read { IsErrOf result.answer Refusal.ReadFailed → ReadCause (Some (Command.Live dir port connections rule.now.secret rule.now.unauthorized)) (⟦<World<F, D, X, S, K, E, H> as Observed>⟧.seen world) (⟦<World<F, D, X, S, K, E, H> as Observed>⟧.seen result.world) }
+    ensures runs { Runs (Some (Command.Live dir port connections rule.now.secret rule.now.unauthorized))
+        (⟦<World<F, D, X, S, K, E, H> as Observed>⟧.seen world) (⟦<World<F, D, X, S, K, E, H> as Observed>⟧.seen result.world)
+        result.answer }
+    ensures read { IsErrOf result.answer Refusal.ReadFailed
+        → ReadCause (Some (Command.Live dir port connections rule.now.secret rule.now.unauthorized))
+        (⟦<World<F, D, X, S, K, E, H> as Observed>⟧.seen world) (⟦<World<F, D, X, S, K, E, H> as Observed>⟧.seen result.world) }
     ensures failed { IfErr result.answer NotDatabase }
     ensures input { result.world.input ≡ world.input }
     ensures door { result.world.door ≡ world.door }

@@ -42,8 +42,11 @@ fn query_paged<F: Files, D: Door, X: Disk, S: Source, K: Sink, E: Sink, H: Hall>
     headers: &Headers,
     world: World<F, D, X, S, K, E, H>,
 ) -> Ended<F, D, X, S, K, E, H>
-    ensures runs { Runs (Some (Command.Query dir.now headers.now true)) (⟦<World<F, D, X, S, K, E, H> as Observed>⟧.seen world) (⟦<World<F, D, X, S, K, E, H> as Observed>⟧.seen result.world) result.answer }
-    ensures read { IsErrOf result.answer Refusal.ReadFailed → ReadCause (Some (Command.Query dir.now headers.now true)) (⟦<World<F, D, X, S, K, E, H> as Observed>⟧.seen world) (⟦<World<F, D, X, S, K, E, H> as Observed>⟧.seen result.world) }
+    ensures runs { Runs (Some (Command.Query dir.now headers.now true)) (⟦<World<F, D, X, S, K, E, H> as Observed>⟧.seen world)
+        (⟦<World<F, D, X, S, K, E, H> as Observed>⟧.seen result.world) result.answer }
+    ensures read { IsErrOf result.answer Refusal.ReadFailed
+        → ReadCause (Some (Command.Query dir.now headers.now true)) (⟦<World<F, D, X, S, K, E, H> as Observed>⟧.seen world)
+        (⟦<World<F, D, X, S, K, E, H> as Observed>⟧.seen result.world) }
     ensures silent { Silent (K.written world.out) (K.written result.world.out) result.answer }
     ensures door { result.world.door ≡ world.door }
     ensures hall { result.world.hall ≡ world.hall }
@@ -86,8 +89,12 @@ fn serve_paged<F: Files, D: Door, X: Disk, S: Source, K: Sink, E: Sink, H: Hall>
     connections: u32,
     world: World<F, D, X, S, K, E, H>,
 ) -> Ended<F, D, X, S, K, E, H>
-    ensures runs { Runs (Some (Command.Serve dir.now port connections rule.now.secret rule.now.unauthorized true)) (⟦<World<F, D, X, S, K, E, H> as Observed>⟧.seen world) (⟦<World<F, D, X, S, K, E, H> as Observed>⟧.seen result.world) result.answer }
-    ensures read { IsErrOf result.answer Refusal.ReadFailed → ReadCause (Some (Command.Serve dir.now port connections rule.now.secret rule.now.unauthorized true)) (⟦<World<F, D, X, S, K, E, H> as Observed>⟧.seen world) (⟦<World<F, D, X, S, K, E, H> as Observed>⟧.seen result.world) }
+    ensures runs { Runs (Some (Command.Serve dir.now port connections rule.now.secret rule.now.unauthorized true))
+        (⟦<World<F, D, X, S, K, E, H> as Observed>⟧.seen world) (⟦<World<F, D, X, S, K, E, H> as Observed>⟧.seen result.world)
+        result.answer }
+    ensures read { IsErrOf result.answer Refusal.ReadFailed
+        → ReadCause (Some (Command.Serve dir.now port connections rule.now.secret rule.now.unauthorized true))
+        (⟦<World<F, D, X, S, K, E, H> as Observed>⟧.seen world) (⟦<World<F, D, X, S, K, E, H> as Observed>⟧.seen result.world) }
     ensures failed { IfErr result.answer NotDatabase }
     ensures input { result.world.input ≡ world.input }
     ensures hall { result.world.hall ≡ world.hall }
@@ -140,7 +147,9 @@ fn obey<F: Files, D: Door, X: Disk, S: Source, K: Sink, E: Sink, H: Hall>(
 ) -> Ended<F, D, X, S, K, E, H>
     requires { HasFewAuthors command }
     ensures runs { Runs (Some command) (⟦<World<F, D, X, S, K, E, H> as Observed>⟧.seen world) (⟦<World<F, D, X, S, K, E, H> as Observed>⟧.seen result.world) result.answer }
-    ensures read { IsErrOf result.answer Refusal.ReadFailed → ReadCause (Some command) (⟦<World<F, D, X, S, K, E, H> as Observed>⟧.seen world) (⟦<World<F, D, X, S, K, E, H> as Observed>⟧.seen result.world) }
+    ensures read { IsErrOf result.answer Refusal.ReadFailed
+        → ReadCause (Some command) (⟦<World<F, D, X, S, K, E, H> as Observed>⟧.seen world)
+        (⟦<World<F, D, X, S, K, E, H> as Observed>⟧.seen result.world) }
     ensures silent { tells_lines (Some command) ≡ false → tells_files (Some command) ≡ false → Silent (K.written world.out) (K.written result.world.out) result.answer }
     ensures words { result.answer ≢ Err Refusal.BadWords }
     ensures input { reads_input (Some command) ≡ false → result.world.input ≡ world.input }
@@ -241,7 +250,9 @@ fn answered<F: Files, D: Door, X: Disk, S: Source, K: Sink, E: Sink, H: Hall>(
     world: World<F, D, X, S, K, E, H>,
 ) -> Ended<F, D, X, S, K, E, H>
     ensures runs { Runs (command_of words.now) (⟦<World<F, D, X, S, K, E, H> as Observed>⟧.seen world) (⟦<World<F, D, X, S, K, E, H> as Observed>⟧.seen result.world) result.answer }
-    ensures read { IsErrOf result.answer Refusal.ReadFailed → ReadCause (command_of words.now) (⟦<World<F, D, X, S, K, E, H> as Observed>⟧.seen world) (⟦<World<F, D, X, S, K, E, H> as Observed>⟧.seen result.world) }
+    ensures read { IsErrOf result.answer Refusal.ReadFailed
+        → ReadCause (command_of words.now) (⟦<World<F, D, X, S, K, E, H> as Observed>⟧.seen world)
+        (⟦<World<F, D, X, S, K, E, H> as Observed>⟧.seen result.world) }
     ensures silent { tells_lines (command_of words.now) ≡ false → tells_files (command_of words.now) ≡ false → Silent (K.written world.out) (K.written result.world.out) result.answer }
     ensures words { IsErrOf result.answer Refusal.BadWords → command_of words.now ≡ None }
     ensures input { reads_input (command_of words.now) ≡ false → result.world.input ≡ world.input }

@@ -116,12 +116,14 @@ small_is_no_brace : (c : ℕ) → is_small_hex c ≡ true → (c == 123) ≡ fal
 small_is_no_brace c h = grind (arith, nat_tests)
 
 -- a hyphen behind groups, and a digit at its place, and what follows them
-spelled_hyphen : (at since next digits c : ℕ) (cs : List ℕ) → (c == 45) ≡ true → are_groups since ≡ true → next ≡ at → digits ≡ 0 → spells_from next digits cs ≡ true → spells_from at since (c ∷ cs) ≡ true
+spelled_hyphen : (at since next digits c : ℕ) (cs : List ℕ) → (c == 45) ≡ true → are_groups since ≡ true → next ≡ at → digits ≡ 0
+    → spells_from next digits cs ≡ true → spells_from at since (c ∷ cs) ≡ true
 spelled_hyphen at since next digits c cs is groups same none rest =
     let here : spells_from at 0 cs ≡ true = subst (λ n. spells_from at n cs ≡ true) none (subst (λ n. spells_from n digits cs ≡ true) same rest) in
     rw (is, groups) here
 
-spelled_digit : (at since next digits c : ℕ) (cs : List ℕ) → is_small_hex c ≡ true → nat_lt at 36 ≡ true → next_place at ≡ next → since + 1 ≡ digits → spells_from next digits cs ≡ true → spells_from at since (c ∷ cs) ≡ true
+spelled_digit : (at since next digits c : ℕ) (cs : List ℕ) → is_small_hex c ≡ true → nat_lt at 36 ≡ true → next_place at ≡ next
+    → since + 1 ≡ digits → spells_from next digits cs ≡ true → spells_from at since (c ∷ cs) ≡ true
 spelled_digit at since next digits c cs small below same one rest =
     let here : spells_from (next_place at) (since + 1) cs ≡ true = subst (λ n. spells_from (next_place at) n cs ≡ true) (sym one) (subst (λ n. spells_from n digits cs ≡ true) (sym same) rest) in
     rw (small_is_no_hyphen c small, below, small_is c small) here

@@ -31,11 +31,13 @@ use Rattle.hq_command.proofs.Endings.{within_short}
 abbrev answered_with : (bytes : List ℕ) → Result Output Refusal
 answered_with bytes = Ok (record { done = Answered; bytes = Some bytes })
 
-text_due : (tables : List Table) (meta : MetaTree) (r : Result AskTree RequestRefusal) (text : List ℕ) → text_for tables meta r ≡ Some text → stated_output (text_for tables meta r) r ≡ answered_with (line_text text)
+text_due : (tables : List Table) (meta : MetaTree) (r : Result AskTree RequestRefusal) (text : List ℕ) → text_for tables meta r ≡ Some text
+    → stated_output (text_for tables meta r) r ≡ answered_with (line_text text)
 text_due tables meta (Ok ask) text h = ap (λ t. stated_output t (Ok ask)) h
 text_due tables meta (Err e) text h = absurd cc
 
-none_due : (tables : List Table) (meta : MetaTree) (r : Result AskTree RequestRefusal) → is_ok r ≡ true → text_for tables meta r ≡ None → stated_output (text_for tables meta r) r ≡ answered_with (line_text (codes "none"))
+none_due : (tables : List Table) (meta : MetaTree) (r : Result AskTree RequestRefusal) → is_ok r ≡ true → text_for tables meta r ≡ None
+    → stated_output (text_for tables meta r) r ≡ answered_with (line_text (codes "none"))
 none_due tables meta (Ok ask) is h = ap (λ t. stated_output t (Ok ask)) h
 none_due tables meta (Err e) is h = absurd cc
 
@@ -60,7 +62,9 @@ module _ (engine : Engine) (session : Session) (body : List ℕ) (short : length
 -- ---- what the text is good for
 
 -- of all that was read
-pub statement_read : (tables : List Table) (meta : MetaTree) (session : Session) (left : Option (List ℕ)) (body text : List ℕ) (answer : Answer) → IfSome left (λ l. ReadsAll INPUT_LIMIT l (Ok body)) → text ≡ body
+pub statement_read : (tables : List Table) (meta : MetaTree) (session : Session) (left : Option (List ℕ)) (body text : List ℕ)
+    (answer : Answer)
+    → IfSome left (λ l. ReadsAll INPUT_LIMIT l (Ok body)) → text ≡ body
     → OnOk answer (HasStatementFor tables meta session text) → IfSome left (λ l. OnOk answer (HasStatementFor tables meta session l))
 statement_read tables meta session None body text answer read is has = tt
 statement_read tables meta session (Some l) body text answer read is has = subst (λ t. OnOk answer (HasStatementFor tables meta session t)) (is ∙ read.0) has

@@ -45,13 +45,17 @@ over_loaded session (Some text) tables ts meta m old new answer same_tables same
     (subst (λ (k : List Table). Explains old new (input_explained k m session text) answer) same_tables h)
 
 -- what is told of all that was read is told of what was left
-pub read_told : (left : Option (List ℕ)) (body bytes : List ℕ) (due : List ℕ → Result Output Refusal) (old new : Option (List ℕ)) (answer : Answer) → IfSome left (λ l. ReadsAll INPUT_LIMIT l (Ok body)) → bytes ≡ body
+pub read_told : (left : Option (List ℕ)) (body bytes : List ℕ) (due : List ℕ → Result Output Refusal) (old new : Option (List ℕ))
+    (answer : Answer)
+    → IfSome left (λ l. ReadsAll INPUT_LIMIT l (Ok body)) → bytes ≡ body
     → Explains old new (due bytes) answer → IfSome left (λ l. Explains old new (due l) answer)
 read_told None body bytes due old new answer read same told = tt
 read_told (Some l) body bytes due old new answer read same told = subst (λ (b : List ℕ). Explains old new (due b) answer) (same ∙ read.0) told
 
 -- the same over what a folder holds, where it is loaded
-over_held : (due : Result Contents Refusal) (headers : List Header) (held : Contents) (session : Session) (left : Option (List ℕ)) (old new : Option (List ℕ)) (answer : Answer) → due ≡ Ok held → session ≡ session_of headers
+over_held : (due : Result Contents Refusal) (headers : List Header) (held : Contents) (session : Session) (left : Option (List ℕ))
+    (old new : Option (List ℕ)) (answer : Answer)
+    → due ≡ Ok held → session ≡ session_of headers
     → IfSome left (λ text. Explains old new (input_explained held.tables held.meta session text) answer)
     → IfSome left (λ text. Explains old new (due >>= λ c. input_explained c.tables c.meta (session_of headers) text) answer)
 over_held due headers held session None old new answer is who told = tt
@@ -59,7 +63,9 @@ over_held due headers held session (Some text) old new answer is who told =
     subst (λ (d : Result Contents Refusal). Explains old new (d >>= λ c. input_explained c.tables c.meta (session_of headers) text) answer) (sym is)
     (subst (λ (s : Session). Explains old new (input_explained held.tables held.meta s text) answer) who told)
 
-pub over_folder : (folder : Option (List File)) (dir : List ℕ) (headers : List Header) (held : Contents) (session : Session) (left : Option (List ℕ)) (old new : Option (List ℕ)) (answer : Answer) → session ≡ session_of headers
+pub over_folder : (folder : Option (List File)) (dir : List ℕ) (headers : List Header) (held : Contents) (session : Session)
+    (left : Option (List ℕ)) (old new : Option (List ℕ)) (answer : Answer)
+    → session ≡ session_of headers
     → IfSome folder (λ fs. loading_due fs dir ≡ Ok held) → IfSome left (λ text. Explains old new (input_explained held.tables held.meta session text) answer)
     → IfSome folder (λ fs. IfSome left (λ text. Explains old new (explain_output dir headers fs text) answer))
 over_folder None dir headers held session left old new answer who holds told = tt

@@ -37,7 +37,8 @@ module _ {L : Type 0} (t : ToldLink L) (rule : SecretRule) (n : ℕ) where
       record { last = s.last; serves = subst (λ (ls : Option (List L)). ServesTalks (AllowedBySecret rule) t n first s.last a.accepted c.accepted ls c.links old new result) same_links at_count }
 
   -- talks over an instance of what a directory holds
-  pub opens_held : (a c : SeenDoor L) (old new : Option (List ℕ)) (files : Option (List File)) (dir : List ℕ) (held : Contents) (tables : List Table) (meta : MetaTree) (database : Option (List (List Row))) (faults : ℕ)
+  pub opens_held : (a c : SeenDoor L) (old new : Option (List ℕ)) (files : Option (List File)) (dir : List ℕ) (held : Contents)
+      (tables : List Table) (meta : MetaTree) (database : Option (List (List Row))) (faults : ℕ)
       (result : Result (Unit {0}) ServeRefusal) → tables ≡ held.tables → meta ≡ held.meta → database ≡ Some held.rows
       → OpensOver a c old new (TalksFrom t rule n a c old new (standing (due_of tables meta database) (next_of tables meta files dir) faults [])) result
       → OpensOver a c old new (TalksOver t rule n a c old new files dir held) result
@@ -47,7 +48,8 @@ module _ {L : Type 0} (t : ToldLink L) (rule : SecretRule) (n : ℕ) where
       (λ r k. record { first = first; begins = begins_over held files dir tables meta database faults same_tables same_meta told; talks = k }) s
 
 -- talks by a rule are those by an equal one, and begin without a subscription
-pub held_talks : {L : Type 0} (t : ToldLink L) (rule r : SecretRule) (n : ℕ) (before after : SeenDoor L) (old new : Option (List ℕ)) (due : Due) (next : Next) (faults : ℕ) (subs : List Subscription) (last : Standing) (result : Result (Unit {0}) ServeRefusal)
+pub held_talks : {L : Type 0} (t : ToldLink L) (rule r : SecretRule) (n : ℕ) (before after : SeenDoor L) (old new : Option (List ℕ))
+    (due : Due) (next : Next) (faults : ℕ) (subs : List Subscription) (last : Standing) (result : Result (Unit {0}) ServeRefusal)
     → r ≡ rule → subs ≡ [] → ServesTalks (AllowedBySecret r) t n (standing due next faults subs) last before.accepted after.accepted before.links after.links old new result
     → TalksFrom t rule n before after old new (standing due next faults []) result
 held_talks t rule r n before after old new due next faults subs last result same_rule none s = record {

@@ -30,7 +30,8 @@ rows_same (Some old) None rows same = absurd cc
 rows_same (Some old) (Some new) rows same = refl
 
 -- an answer over rows on a disk, by an engine of these contents, is due over them
-pub over_disk : (engine : Engine) (session : Session) (database : Option (List (List Row))) (left : Option (List ℕ)) (tables : List Table) (meta : MetaTree) (rows : Option (List (List Row))) (old new : Option (List ℕ)) (before now : Counts) (answer : Answer)
+pub over_disk : (engine : Engine) (session : Session) (database : Option (List (List Row))) (left : Option (List ℕ)) (tables : List Table)
+    (meta : MetaTree) (rows : Option (List (List Row))) (old new : Option (List ℕ)) (before now : Counts) (answer : Answer)
     → engine.catalog.tables ≡ tables → meta_view engine.meta ≡ meta → database ≡ rows → IfSome left (λ text. Answers engine session database text old new before now answer)
     → IfSome left (λ text. Ends old new (request_output tables meta session rows text) answer)
 over_disk engine session database None tables meta rows old new before now answer same_tables same_meta same_rows h = tt
@@ -40,12 +41,15 @@ over_disk engine session database (Some text) tables meta rows old new before no
     (subst (λ (ts : List Table). Ends old new (request_output ts (meta_view engine.meta) session database text) answer) same_tables h.ends))
 
 -- a directory whose tables are not on the disk is not served
-pub pages_refused : {L : Type 0} (before after : SeenDoor L) (old new : Option (List ℕ)) (over : Contents → Result (Unit {0}) ServeRefusal → Type 0) (files : Option (List File)) (dir : List ℕ) (e : PageRefusal) (a : Answer) → a ≡ Err (of_pages e) → Untouched before after old new → EndsOver before after old new over files dir a
+pub pages_refused : {L : Type 0} (before after : SeenDoor L) (old new : Option (List ℕ))
+    (over : Contents → Result (Unit {0}) ServeRefusal → Type 0) (files : Option (List File)) (dir : List ℕ) (e : PageRefusal) (a : Answer)
+    → a ≡ Err (of_pages e) → Untouched before after old new → EndsOver before after old new over files dir a
 pages_refused before after old new over files dir pages.Failed a is u = rw is (inl u)
 pages_refused before after old new over files dir pages.Memory a is u = rw is (inl u)
 
 -- the same over tables on a disk
-pub from_same : {L : Type 0} (t : Told L) (rule : SecretRule) (n : ℕ) (before after : SeenDoor L) (old new : Option (List ℕ)) (disk left : SeenDisk) (first : ℕ) (held : Contents) (ts : List Table) (m : MetaTree) (database : Option (List (List Row)))
+pub from_same : {L : Type 0} (t : Told L) (rule : SecretRule) (n : ℕ) (before after : SeenDoor L) (old new : Option (List ℕ))
+    (disk left : SeenDisk) (first : ℕ) (held : Contents) (ts : List Table) (m : MetaTree) (database : Option (List (List Row)))
     (result : Result (Unit {0}) ServeRefusal) → ts ≡ held.tables → m ≡ held.meta → database ≡ told_rows disk.told held.rows → disk.faults ≤ first
     → ServesFrom t rule n before after old new first left ts m database result → ServesOnDisk t rule n before after old new disk left held result
 from_same t rule n before after old new disk left first held ts m database result same_tables same_meta told begins s = record {
@@ -59,7 +63,8 @@ from_same t rule n before after old new disk left first held ts m database resul
 }
 
 -- how a run ends that serves over tables on a disk
-pub ends_on_disk : {L : Type 0} (t : Told L) (rule : SecretRule) (n : ℕ) (before after : SeenDoor L) (old new : Option (List ℕ)) (disk left : SeenDisk) (files : Option (List File)) (dir : List ℕ) (held : Contents)
+pub ends_on_disk : {L : Type 0} (t : Told L) (rule : SecretRule) (n : ℕ) (before after : SeenDoor L) (old new : Option (List ℕ))
+    (disk left : SeenDisk) (files : Option (List File)) (dir : List ℕ) (held : Contents)
     (first : ℕ) (ts : List Table) (m : MetaTree) (database : Option (List (List Row))) (result : Result (Unit {0}) ServeRefusal) (a : Answer)
     → IfSome files (λ fs. loading_due fs dir ≡ Ok held) → ts ≡ held.tables → m ≡ held.meta → database ≡ told_rows disk.told held.rows → disk.faults ≤ first → a ≡ answer_of result
     → OpensOver before after old new (ServesFrom t rule n before after old new first left ts m database) result → PagedServeEnds t rule n before after old new disk left files dir a

@@ -31,7 +31,9 @@ loading_is e d memory failed (inr (inl h)) = absurd (failed h)
 loading_is e d memory failed (inr (inr h)) = h
 
 -- and so is a refused file to the program
-refused_due : (files : Option (List File)) (dir file : List ℕ) (fault : _) → IfSome files (λ fs. GivesUnless {X = Loaded} loaded_view loading.Memory loading.Failed (loading_due fs dir) (Err (loading.File file fault)))
+refused_due : (files : Option (List File)) (dir file : List ℕ) (fault : _)
+    → IfSome files
+    (λ fs. GivesUnless {X = Loaded} loaded_view loading.Memory loading.Failed (loading_due fs dir) (Err (loading.File file fault)))
     → IfSome files (λ fs. contents_due dir fs ≡ Err (refusal.File file fault))
 refused_due None dir file fault h = tt
 refused_due (Some fs) dir file fault h =
@@ -58,7 +60,8 @@ module _ {L : Type 0} (before after : SeenDoor L) (old new : Option (List ℕ)) 
   module _ (over : Contents → Result (Unit {0}) ServeRefusal → Type 0) (files : Option (List File)) (dir : List ℕ) where
     -- a directory that is not loaded is not served
     pub load_refused : (e : LoadingRefusal) (a : Answer) → a ≡ Err (of_loading e)
-        → IfSome files (λ fs. GivesUnless {X = Loaded} loaded_view loading.Memory loading.Failed (loading_due fs dir) (Err e)) → Untouched before after old new → EndsOver before after old new over files dir a
+        → IfSome files (λ fs. GivesUnless {X = Loaded} loaded_view loading.Memory loading.Failed (loading_due fs dir) (Err e))
+        → Untouched before after old new → EndsOver before after old new over files dir a
     load_refused (loading.File file fault) a is h u = rw is (u, refused_due files dir file fault h)
     load_refused loading.Failed a is h u = rw is (inl u)
     load_refused loading.Memory a is h u = rw is (inl u)
@@ -77,7 +80,8 @@ module _ {L : Type 0} (before after : SeenDoor L) (old new : Option (List ℕ)) 
       ends_as (Err serve.Memory) a is (inr s) = rw is (inr (directory (Err serve.Memory) s))
 
 -- what is served by an engine of these contents is served over them
-pub over_same : {L : Type 0} (t : Told L) (rule : SecretRule) (n : ℕ) (before after : SeenDoor L) (old new : Option (List ℕ)) (f f' : ℕ) (tables ts : List Table) (meta m : MetaTree) (rows database : Option (List (List Row)))
+pub over_same : {L : Type 0} (t : Told L) (rule : SecretRule) (n : ℕ) (before after : SeenDoor L) (old new : Option (List ℕ)) (f f' : ℕ)
+    (tables ts : List Table) (meta m : MetaTree) (rows database : Option (List (List Row)))
     (result : Result (Unit {0}) ServeRefusal) → ts ≡ tables → m ≡ meta → database ≡ rows
     → ServesTables t rule n before after old new f f' ts m database result → ServesTables t rule n before after old new f f' tables meta rows result
 over_same t rule n before after old new f f' tables ts meta m rows database result same_tables same_meta told s =
@@ -86,7 +90,8 @@ over_same t rule n before after old new f f' tables ts meta m rows database resu
     subst (λ (k : List Table). ServesTables t rule n before after old new f f' k meta rows result) same_tables at_meta
 
 -- a door that was opened is the one that was there
-pub door_same : {L : Type 0} (t : Told L) (rule : SecretRule) (n : ℕ) (tables : List Table) (meta : MetaTree) (rows : Option (List (List Row))) (f f' a a1 a2 : ℕ) (links links1 links2 : Option (List L)) (old new : Option (List ℕ))
+pub door_same : {L : Type 0} (t : Told L) (rule : SecretRule) (n : ℕ) (tables : List Table) (meta : MetaTree)
+    (rows : Option (List (List Row))) (f f' a a1 a2 : ℕ) (links links1 links2 : Option (List L)) (old new : Option (List ℕ))
     (result : Result (Unit {0}) ServeRefusal) → a1 ≡ a → links1 ≡ links
     → Serves (denies rule) (gives rule tables meta rows) t n a1 a2 links1 links2 f f' old new result → Serves (denies rule) (gives rule tables meta rows) t n a a2 links links2 f f' old new result
 door_same t rule n tables meta rows f f' a a1 a2 links links1 links2 old new result same_count same_links s =

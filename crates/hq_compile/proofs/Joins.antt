@@ -55,7 +55,9 @@ module _ (s : Schema) (g : Rights) (fs : FieldTrees) where
       → join ≡ first_at v n m (look_in places (table s v).columns n) joins members
       → v ≡ u → n ≡ next → m ≡ behind_filter s g u cs next
       → look_in places (table s u).columns next ≡ shown_look s g u cs next → joins ≡ masks s g u cs next
-      → members ≡ with_member (joined_by_and (key_members (table s u).columns (shown_look s g u cs next) (table s u).key key)) (with_member (filter_predicate s g u next (filter_from s g u cs next)) [])
+      → members
+      ≡ with_member (joined_by_and (key_members (table s u).columns (shown_look s g u cs next) (table s u).key key))
+      (with_member (filter_predicate s g u next (filter_from s g u cs next)) [])
       → cs ≡ key_used s u fs
       → join ∷ [] ≡ field_joins (by_key u key fs) s g t p next
   key_of t p u next v n m key cs places joins members join is v-is n-is m-is look-is joins-is members-is cs-is =

@@ -28,7 +28,10 @@ use std::alloc::Global;
 
 // A column of a key equals a value.
 fn key_member(alloc: Global, shown: &Shown, column: ColId, value: &Val) -> Result<Pred, Memory>
-    ensures { IfOk result (λ p. pred_view p ≡ tree.test (compared_at shown.now.columns.now (look_of shown.now column) column) (Compare Eq) (literal (type_in shown.now.columns.now column) value.now ∷ [])) }
+    ensures { IfOk result
+        (λ p. pred_view p
+        ≡ tree.test (compared_at shown.now.columns.now (look_of shown.now column) column) (Compare Eq)
+        (literal (type_in shown.now.columns.now column) value.now ∷ [])) }
 {
     let left = compared_shown(alloc, shown, column)?;
     let right = literal(alloc, type_in(shown.columns, column), value)?;

@@ -231,7 +231,10 @@ pub fn column_test(
     operands: &Operands,
     negated: bool,
 ) -> Result<Pred, Memory>
-    ensures { IfOk result (λ p. pred_view p ≡ test_of (type_in shown.now.columns.now column) (tested_at shown.now.columns.now (look_of shown.now column) column test) test (operands_of operands.now) negated) }
+    ensures { IfOk result
+        (λ p. pred_view p
+        ≡ test_of (type_in shown.now.columns.now column) (tested_at shown.now.columns.now (look_of shown.now column) column test) test
+        (operands_of operands.now) negated) }
 {
     match operands {
         Operands::List(operands) => {

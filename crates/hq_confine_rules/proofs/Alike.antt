@@ -93,7 +93,8 @@ any_sorted : (R : Scope → Scope → Ordering) (xs : List Scope) → list_any (
 any_sorted R [] = refl
 any_sorted R (x ∷ xs) = any_put R x (sort R xs)
 
-any_kept : (p : Scope → Bool) (bind : NamedRow → Scope) (w : World) (rows : List NamedRow) → list_any (λ y. true) (filter p (flat_map (joined tree.no_join w) (map bind rows))) ≡ list_any (λ row. p (bind row)) rows
+any_kept : (p : Scope → Bool) (bind : NamedRow → Scope) (w : World) (rows : List NamedRow)
+    → list_any (λ y. true) (filter p (flat_map (joined tree.no_join w) (map bind rows))) ≡ list_any (λ row. p (bind row)) rows
 any_kept p bind w [] = refl
 any_kept p bind w (row ∷ rows) =
     let later = any_kept p bind w rows in
@@ -102,7 +103,8 @@ any_kept p bind w (row ∷ rows) =
     go (p (bind row))
 
 pub bare_rows : (w : World) (e : Scope) (schema name alias : List ℕ) (outs : List OutTree) (condition : FilterTree)
-    → has_rows (rows_of (tree.rows [] outs (tree.table schema name alias) tree.no_join condition [] None None) w e) ≡ list_any (λ row. kept condition w (with_alias e alias row)) (rows_named w.tables w.database schema name)
+    → has_rows (rows_of (tree.rows [] outs (tree.table schema name alias) tree.no_join condition [] None None) w e)
+    ≡ list_any (λ row. kept condition w (with_alias e alias row)) (rows_named w.tables w.database schema name)
 bare_rows w e schema name alias outs condition =
     let all : List NamedRow = rows_named w.tables w.database schema name in
     let found : List Scope = filter (kept condition w) (flat_map (joined tree.no_join w) (map (with_alias e alias) all)) in
@@ -120,7 +122,9 @@ pub no_join_is : (js : JoinTrees) → is_no_join js ≡ true → js ≡ tree.no_
 no_join_is tree.no_join h = refl
 no_join_is (tree.join s a js) h = cc
 
-pub bare_select : (distinct : List ExprTree) (outs : List OutTree) (from : FromTree) (joins : JoinTrees) (condition : FilterTree) (keys : List OrderTree) (limit offset : Option ℕ) → is_bare distinct joins keys limit offset ≡ true
+pub bare_select : (distinct : List ExprTree) (outs : List OutTree) (from : FromTree) (joins : JoinTrees) (condition : FilterTree)
+    (keys : List OrderTree) (limit offset : Option ℕ)
+    → is_bare distinct joins keys limit offset ≡ true
     → tree.rows distinct outs from joins condition keys limit offset ≡ tree.rows [] outs from tree.no_join condition [] None None
 bare_select distinct outs from joins condition keys limit offset h =
     let a = and_parts ((length distinct == 0) && is_no_join joins && (length keys == 0) && is_none limit) (is_none offset) h in
@@ -155,16 +159,23 @@ mutual
 
   all_alike : (ps qs : PredTrees) (r : Renaming) → are_alike r ps qs ≡ true → (w : World) (e f : Scope) → Related r e f → all_true ps w e ≡ all_true qs w f
   all_alike tree.no_pred tree.no_pred r k w e f h = refl
-  all_alike (tree.pred p ps) (tree.pred q qs) r k w e f h = let parts = and_parts (is_alike r p q) (are_alike r ps qs) k in ap₂ and3 (truth_alike p q r parts.0 w e f h) (all_alike ps qs r parts.1 w e f h)
+  all_alike (tree.pred p ps) (tree.pred q qs) r k w e f h =
+      let parts = and_parts (is_alike r p q) (are_alike r ps qs) k in ap₂ and3 (truth_alike p q r parts.0 w e f h)
+      (all_alike ps qs r parts.1 w e f h)
   all_alike _ _ r k w e f h = cc
 
   any_of_alike : (ps qs : PredTrees) (r : Renaming) → are_alike r ps qs ≡ true → (w : World) (e f : Scope) → Related r e f → any_true ps w e ≡ any_true qs w f
   any_of_alike tree.no_pred tree.no_pred r k w e f h = refl
-  any_of_alike (tree.pred p ps) (tree.pred q qs) r k w e f h = let parts = and_parts (is_alike r p q) (are_alike r ps qs) k in ap₂ or3 (truth_alike p q r parts.0 w e f h) (any_of_alike ps qs r parts.1 w e f h)
+  any_of_alike (tree.pred p ps) (tree.pred q qs) r k w e f h =
+      let parts = and_parts (is_alike r p q) (are_alike r ps qs) k in ap₂ or3 (truth_alike p q r parts.0 w e f h)
+      (any_of_alike ps qs r parts.1 w e f h)
   any_of_alike _ _ r k w e f h = cc
 
   rows_alike : (s u : SelectTree) (r : Renaming) → is_alike_select r s u ≡ true → (w : World) (e f : Scope) → Related r e f → has_rows (rows_of s w e) ≡ has_rows (rows_of u w f)
-  rows_alike (tree.rows distinct outs (tree.table schema name alias) joins condition keys limit offset) (tree.rows other_distinct other_outs (tree.table other_schema other_name other_alias) other_joins other_condition other_keys other_limit other_offset) r k w e f h =
+  rows_alike (tree.rows distinct outs (tree.table schema name alias) joins condition keys limit offset)
+      (tree.rows other_distinct other_outs (tree.table other_schema other_name other_alias) other_joins other_condition other_keys other_limit
+      other_offset)
+      r k w e f h =
       let within : Renaming = (alias, other_alias) ∷ r in
       let one : Bool = is_bare distinct joins keys limit offset in
       let two : Bool = is_bare other_distinct other_joins other_keys other_limit other_offset in
@@ -178,11 +189,23 @@ mutual
       ap (λ x. has_rows (rows_of x w e)) (bare_select distinct outs (tree.table schema name alias) joins condition keys limit offset bare.0)
       ∙ bare_rows w e schema name alias outs condition
       ∙ any_alike (λ row. kept condition w (with_alias e alias row)) (λ row. kept other_condition w (with_alias f other_alias row)) each (rows_named w.tables w.database schema name)
-      ∙ ap₂ (λ x y. list_any (λ row. kept other_condition w (with_alias f other_alias row)) (rows_named w.tables w.database x y)) ((bytes_eq-Decides schema other_schema).0 names.0) ((bytes_eq-Decides name other_name).0 names.1)
-      ∙ sym (ap (λ x. has_rows (rows_of x w f)) (bare_select other_distinct other_outs (tree.table other_schema other_name other_alias) other_joins other_condition other_keys other_limit other_offset bare.1) ∙ bare_rows w f other_schema other_name other_alias other_outs other_condition)
-  rows_alike (tree.rows distinct outs from joins condition keys limit offset) (tree.rows other_distinct other_outs other_from other_joins other_condition other_keys other_limit other_offset) r k w e f h =
-      let tables = and_parts (is_bare distinct joins keys limit offset && is_bare other_distinct other_joins other_keys other_limit other_offset) (same_table from other_from) (and_parts (is_bare distinct joins keys limit offset && is_bare other_distinct other_joins other_keys other_limit other_offset && same_table from other_from) (are_alike_outs (beside r from other_from) outs other_outs)
-      (and_parts (is_bare distinct joins keys limit offset && is_bare other_distinct other_joins other_keys other_limit other_offset && same_table from other_from && are_alike_outs (beside r from other_from) outs other_outs) (is_alike_filter (beside r from other_from) condition other_condition) k).0).0 in
+      ∙ ap₂ (λ x y. list_any (λ row. kept other_condition w (with_alias f other_alias row)) (rows_named w.tables w.database x y))
+      ((bytes_eq-Decides schema other_schema).0 names.0) ((bytes_eq-Decides name other_name).0 names.1)
+      ∙ sym
+      (ap (λ x. has_rows (rows_of x w f))
+      (bare_select other_distinct other_outs (tree.table other_schema other_name other_alias) other_joins other_condition other_keys
+      other_limit other_offset bare.1)
+      ∙ bare_rows w f other_schema other_name other_alias other_outs other_condition)
+  rows_alike (tree.rows distinct outs from joins condition keys limit offset)
+      (tree.rows other_distinct other_outs other_from other_joins other_condition other_keys other_limit other_offset) r k w e f h =
+      let tables =
+      and_parts (is_bare distinct joins keys limit offset && is_bare other_distinct other_joins other_keys other_limit other_offset)
+      (same_table from other_from) (and_parts
+      (is_bare distinct joins keys limit offset && is_bare other_distinct other_joins other_keys other_limit other_offset
+      && same_table from other_from)
+      (are_alike_outs (beside r from other_from) outs other_outs)
+      (and_parts (is_bare distinct joins keys limit offset && is_bare other_distinct other_joins other_keys other_limit other_offset && same_table from other_from && are_alike_outs (beside r from other_from) outs other_outs) (is_alike_filter (beside r from other_from) condition other_condition) k).0).0
+      in
       absurd (let no = tables.1 in cc)
   rows_alike _ _ r k w e f h = cc
 

@@ -35,7 +35,8 @@ module _ (s : Schema) (g : Grants) where
       rw may refl
 
   -- a link to the row of table t at the alias of number p ties a row
-  pub link_ties : (t r p n : ℕ) (scope final : Shapes) (cs : List ℕ) → Leads s g t r → p < n → n < 2 ^ 64 → Scans scope p t → Behind s g scope (rel s t r).remote n cs final → IsTied s g final (rel s t r).remote n (link s t (rel s t r) p n)
+  pub link_ties : (t r p n : ℕ) (scope final : Shapes) (cs : List ℕ) → Leads s g t r → p < n → n < 2 ^ 64 → Scans scope p t
+      → Behind s g scope (rel s t r).remote n cs final → IsTied s g final (rel s t r).remote n (link s t (rel s t r) p n)
   link_ties t r p n scope final cs leads lt bound own behind ys =
       exempt_free s g final (is_exempt s g final (opened (link s t (rel s t r) p n) ++ ys) (from_of s g (rel s t r).remote n)) (link s t (rel s t r) p n)
       (link_exempt s g t r p n final ys leads.ready lt bound (scans_behind scope final p n t lt behind.grows own) leads.within)
@@ -45,9 +46,14 @@ module _ (s : Schema) (g : Grants) where
   PlainAt final p = is_plain g (origin_at s final p.alias p.name) ≡ true
 
   -- what is plain behind an alias's masks stays so
-  later : (at final : Shapes) (n behind : ℕ) (cs : List ℕ) (far c : ℕ) → (b : n + 1 + extra s (rights_of g) far cs ≤ behind) → behind ≤ 2 ^ 64 → Grows behind at final → Shows s g at (shown_look s (rights_of g) far cs n) cs → is_used c cs ≡ true → PlainAt final (shown_look s (rights_of g) far cs n c)
+  later : (at final : Shapes) (n behind : ℕ) (cs : List ℕ) (far c : ℕ) → (b : n + 1 + extra s (rights_of g) far cs ≤ behind)
+      → behind ≤ 2 ^ 64 → Grows behind at final → Shows s g at (shown_look s (rights_of g) far cs n) cs → is_used c cs ≡ true
+      → PlainAt final (shown_look s (rights_of g) far cs n c)
   later at final n behind cs far c le bound grown shown used =
-      shows_behind s g at final behind (shown_look s (rights_of g) far cs n) cs grown (looks_under_later (n + 1 + extra s (rights_of g) far cs) behind (shown_look s (rights_of g) far cs n) le (shown_under s g far n cs (omega (arith, le, bound)))) shown c used
+      shows_behind s g at final behind (shown_look s (rights_of g) far cs n) cs grown
+      (looks_under_later (n + 1 + extra s (rights_of g) far cs) behind (shown_look s (rights_of g) far cs n) le
+      (shown_under s g far n cs (omega (arith, le, bound))))
+      shown c used
 
   pub chain_clean : (rs : List ℕ) (scope : Shapes) (t p n c : ℕ) (look : Look) → AllowedChain rs s g t c → Scans scope p t → p < n → n + sort_numbers rs s (rights_of g) t c ≤ 2 ^ 64
       → ((final : Shapes) → Grows n scope final → is_used c (last_used rs c) ≡ true → PlainAt final (look c))
@@ -64,7 +70,8 @@ module _ (s : Schema) (g : Grants) where
       let place : Place = sort_place false rs s inner far n behind c in
       let first = first_clean s g scope far n m cs (link s t (rel s t r) p n) (cell_at place) (sort_joins rs s R far n behind c) f.0.ready f.1 (omega arith) (omega arith)
       (λ final b. link_ties t r p n scope final cs f.0 lt (omega arith) own b)
-      (λ at b. joined_as s g at behind m m (sort_joins rs s R far n behind c) (λ final. PlainAt final place) (λ final. (out_faults s g final (cell_at place) ≡ []) × (is_plain g (origin s final (cell_at place)) ≡ true)) (omega arith)
+      (λ at b. joined_as s g at behind m m (sort_joins rs s R far n behind c) (λ final. PlainAt final place)
+      (λ final. (out_faults s g final (cell_at place) ≡ []) × (is_plain g (origin s final (cell_at place)) ≡ true)) (omega arith)
       (λ final h. (plain_out final place h, h))
       (chain_clean rs at far n behind c inner f.2 b.own (omega arith) (omega arith) (λ final grown used. later at final n behind cs far c (omega arith) (omega arith) grown b.shown used))) in
       joined_one s g scope n (n + sort_numbers (r ∷ rs) s R t c) _ (omega arith) (omega arith) first

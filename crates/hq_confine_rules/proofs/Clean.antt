@@ -118,7 +118,10 @@ module _ (s : Schema) (g : Grants) (scope : Shapes) where
 
       clean_frees : (ps : PredTrees) → preds_faults s g scope ps ≡ [] → conjuncts_faults s g scope ex ps ≡ []
       clean_frees tree.no_pred h = refl
-      clean_frees (tree.pred p ps) h = none (conjunct_faults s g scope ex p) (conjuncts_faults s g scope ex ps) (clean_free p (left_none (pred_faults s g scope p) (preds_faults s g scope ps) h)) (clean_frees ps (right_none (pred_faults s g scope p) (preds_faults s g scope ps) h))
+      clean_frees (tree.pred p ps) h =
+          none (conjunct_faults s g scope ex p) (conjuncts_faults s g scope ex ps)
+          (clean_free p (left_none (pred_faults s g scope p) (preds_faults s g scope ps) h))
+          (clean_frees ps (right_none (pred_faults s g scope p) (preds_faults s g scope ps) h))
 
     mutual
       -- nor has one whose conjuncts are all exempt
@@ -134,7 +137,9 @@ module _ (s : Schema) (g : Grants) (scope : Shapes) where
       exempt_frees : (ps : PredTrees) → Each (λ c. ex c ≡ true) (all_opened ps) → conjuncts_faults s g scope ex ps ≡ []
       exempt_frees tree.no_pred h = refl
       exempt_frees (tree.pred p ps) h =
-          none (conjunct_faults s g scope ex p) (conjuncts_faults s g scope ex ps) (exempt_free p (each_left (λ c. ex c ≡ true) (opened p) (all_opened ps) h)) (exempt_frees ps (each_right (λ c. ex c ≡ true) (opened p) (all_opened ps) h))
+          none (conjunct_faults s g scope ex p) (conjuncts_faults s g scope ex ps)
+          (exempt_free p (each_left (λ c. ex c ≡ true) (opened p) (all_opened ps) h))
+          (exempt_frees ps (each_right (λ c. ex c ≡ true) (opened p) (all_opened ps) h))
 
     list_free : (ps : List PredTree) → Each IsFree ps → conjuncts_faults s g scope ex (preds_of ps) ≡ []
     list_free [] h = refl
@@ -155,7 +160,9 @@ module _ (s : Schema) (g : Grants) (scope : Shapes) where
     member_free (tree.exists q) ps e h = (e, h)
 
     pub three_free : (a b c : PredTree) → IsFree a → IsFree b → IsFree c → where_faults s g scope ex (where_of (with_member a (with_member b (with_member c [])))) ≡ []
-    three_free a b c e f h = where_free (with_member a (with_member b (with_member c []))) (member_free a (with_member b (with_member c [])) e (member_free b (with_member c []) f (member_free c [] h tt)))
+    three_free a b c e f h =
+        where_free (with_member a (with_member b (with_member c [])))
+        (member_free a (with_member b (with_member c [])) e (member_free b (with_member c []) f (member_free c [] h tt)))
 
     pub two_free : (a b : PredTree) → IsFree a → IsFree b → where_faults s g scope ex (where_of (with_member a (with_member b []))) ≡ []
     two_free a b e f = where_free (with_member a (with_member b [])) (member_free a (with_member b []) e (member_free b [] f tt))
@@ -186,7 +193,8 @@ opened_member (tree.exists q) ps = refl
 
 pub where_conjuncts : (a b c : PredTree) → conjuncts (where_of (with_member a (with_member b (with_member c [])))) ≡ opened a ++ (opened b ++ (opened c ++ []))
 where_conjuncts a b c =
-    opened_where (with_member a (with_member b (with_member c []))) ∙ opened_member a (with_member b (with_member c [])) ∙ ap (λ l. opened a ++ l) (opened_member b (with_member c []) ∙ ap (λ l. opened b ++ l) (opened_member c []))
+    opened_where (with_member a (with_member b (with_member c []))) ∙ opened_member a (with_member b (with_member c []))
+    ∙ ap (λ l. opened a ++ l) (opened_member b (with_member c []) ∙ ap (λ l. opened b ++ l) (opened_member c []))
 
 pub where_pair : (a b : PredTree) → conjuncts (where_of (with_member a (with_member b []))) ≡ opened a ++ (opened b ++ [])
 where_pair a b = opened_where (with_member a (with_member b [])) ∙ opened_member a (with_member b []) ∙ ap (λ l. opened a ++ l) (opened_member b [])

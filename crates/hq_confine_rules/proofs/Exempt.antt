@@ -44,7 +44,12 @@ self_eq n = let e = eq-eqb n n refl in rw e refl
 
 members_append : (columns remote : List Column) (p q : ℕ) (xs ys : List Pair) → link_members columns remote p q (xs ++ ys) ≡ link_members columns remote p q xs ++ link_members columns remote p q ys
 members_append columns remote p q [] ys = refl
-members_append columns remote p q (x ∷ xs) ys = ap (λ l. tree.test (compared_at remote (own_look remote q x.remote) x.remote) (Compare Eq) (compared_at columns (own_look columns p x.own) x.own ∷ []) ∷ l) (members_append columns remote p q xs ys)
+members_append columns remote p q (x ∷ xs) ys =
+    ap
+    (λ l. tree.test (compared_at remote (own_look remote q x.remote) x.remote) (Compare Eq)
+    (compared_at columns (own_look columns p x.own) x.own ∷ [])
+    ∷ l)
+    (members_append columns remote p q xs ys)
 
 pairs_shift : (xs : List Pair) (x : Pair) (ys : List Pair) → (xs ++ (x ∷ [])) ++ ys ≡ xs ++ (x ∷ ys)
 pairs_shift [] x ys = refl
@@ -52,13 +57,16 @@ pairs_shift (z ∷ xs) x ys = ap (λ l. z ∷ l) (pairs_shift xs x ys)
 
 module _ (s : Schema) (g : Grants) where
   -- a condition of a table at one alias and at that of number 0
-  written : (b : BexpTree) (t n from : ℕ) → n < from → from + own_numbers b s t ≤ 2 ^ 64 → Zip (Alike ((table_alias 0, table_alias n) ∷ [])) (opened (own_predicate b s t 0 1)) (opened (own_predicate b s t n from))
+  written : (b : BexpTree) (t n from : ℕ) → n < from → from + own_numbers b s t ≤ 2 ^ 64
+      → Zip (Alike ((table_alias 0, table_alias n) ∷ [])) (opened (own_predicate b s t 0 1)) (opened (own_predicate b s t n from))
   written b t n from lt bound =
-      opened_alike ((table_alias 0, table_alias n) ∷ []) (own_predicate b s t 0 1) (own_predicate b s t n from) (own_alike s b ((table_alias 0, table_alias n) ∷ []) t 0 n 1 from (own_stands n) (omega arith) lt (omega arith) bound)
+      opened_alike ((table_alias 0, table_alias n) ∷ []) (own_predicate b s t 0 1) (own_predicate b s t n from)
+      (own_alike s b ((table_alias 0, table_alias n) ∷ []) t 0 n 1 from (own_stands n) (omega arith) lt (omega arith) bound)
 
   -- ---- filters
 
-  pub filter_stands : (t n from : ℕ) (xs ys : List PredTree) → n < from → from + filter_numbers s (rights_of g) t ≤ 2 ^ 64 → stand_among (xs ++ (opened (filter_predicate s (rights_of g) t n from) ++ ys)) (filter_conjuncts s g t) (table_alias n) ≡ true
+  pub filter_stands : (t n from : ℕ) (xs ys : List PredTree) → n < from → from + filter_numbers s (rights_of g) t ≤ 2 ^ 64
+      → stand_among (xs ++ (opened (filter_predicate s (rights_of g) t n from) ++ ys)) (filter_conjuncts s g t) (table_alias n) ≡ true
   filter_stands t n from xs ys lt bound = all_among (table_alias n) (filter_conjuncts s g t) (opened (filter_predicate s (rights_of g) t n from)) xs ys (written (grant g t).filter t n from lt bound)
 
   exempt_each : (P Q : PredTree → Type 0) → ((p : PredTree) → P p → Q p) → (ps : List PredTree) → Each P ps → Each Q ps
@@ -69,9 +77,12 @@ module _ (s : Schema) (g : Grants) where
       → Each (λ c. is_exempt s g scope all (tree.table (table s t).schema (table s t).name (table_alias n)) c ≡ true) (opened (filter_predicate s (rights_of g) t n from))
   filter_exempt t n from scope all ready lt bound =
       exempt_each (λ c. is_one_of (filter_conjuncts s g t) (table_alias n) c ≡ true) (λ c. is_exempt s g scope all (tree.table (table s t).schema (table s t).name (table_alias n)) c ≡ true)
-      (λ c h. or_left (is_one_of (filter_conjuncts s g (table_place s (table s t).schema (table s t).name)) (table_alias n) c) (is_linking s scope all (table_place s (table s t).schema (table s t).name) (table_alias n) (equation c))
+      (λ c h. or_left (is_one_of (filter_conjuncts s g (table_place s (table s t).schema (table s t).name)) (table_alias n) c)
+      (is_linking s scope all (table_place s (table s t).schema (table s t).name) (table_alias n) (equation c))
       (ap (λ u. is_one_of (filter_conjuncts s g u) (table_alias n) c) ready.place ∙ h))
-      (opened (filter_predicate s (rights_of g) t n from)) (each_one_of (table_alias n) (filter_conjuncts s g t) (opened (filter_predicate s (rights_of g) t n from)) (written (grant g t).filter t n from lt bound))
+      (opened (filter_predicate s (rights_of g) t n from))
+      (each_one_of (table_alias n) (filter_conjuncts s g t) (opened (filter_predicate s (rights_of g) t n from))
+      (written (grant g t).filter t n from lt bound))
 
   -- ---- links
 
@@ -93,10 +104,17 @@ module _ (s : Schema) (g : Grants) where
     pairs_found pre [] ys = refl
     pairs_found pre (x ∷ xs) ys =
         let P : PredTree → Bool = λ c. is_for_pair s far t (table_alias n) (table_alias p) x (equation c) in
-        let split : members (pre ++ (x ∷ xs)) ++ ys ≡ members pre ++ (members (x ∷ xs) ++ ys) = ap (λ l. l ++ ys) (members_append (table s t).columns (table s far).columns p n pre (x ∷ xs)) ∙ append_assoc (members pre) (members (x ∷ xs)) ys in
-        let here : list_any P (members (pre ++ (x ∷ xs)) ++ ys) ≡ true = ap (list_any P) split ∙ any_right P (members pre) (members (x ∷ xs) ++ ys) (or_left _ (list_any P (members xs ++ ys)) (self_equation x)) in
+        let split : members (pre ++ (x ∷ xs)) ++ ys ≡ members pre ++ (members (x ∷ xs) ++ ys) =
+        ap (λ l. l ++ ys) (members_append (table s t).columns (table s far).columns p n pre (x ∷ xs))
+        ∙ append_assoc (members pre) (members (x ∷ xs)) ys in
+        let here : list_any P (members (pre ++ (x ∷ xs)) ++ ys) ≡ true =
+        ap (list_any P) split
+        ∙ any_right P (members pre) (members (x ∷ xs) ++ ys) (or_left _ (list_any P (members xs ++ ys)) (self_equation x)) in
         let later : list_all (λ y. list_any (λ c. is_for_pair s far t (table_alias n) (table_alias p) y (equation c)) (members (pre ++ (x ∷ xs)) ++ ys)) xs ≡ true =
-        subst (λ l. list_all (λ y. list_any (λ c. is_for_pair s far t (table_alias n) (table_alias p) y (equation c)) (members l ++ ys)) xs ≡ true) (pairs_shift pre x xs) (pairs_found (pre ++ (x ∷ [])) xs ys) in
+        subst
+        (λ l. list_all (λ y. list_any (λ c. is_for_pair s far t (table_alias n) (table_alias p) y (equation c)) (members l ++ ys)) xs
+        ≡ true)
+        (pairs_shift pre x xs) (pairs_found (pre ++ (x ∷ [])) xs ys) in
         rw here later
 
     -- so each of them stands in a whole link
@@ -106,9 +124,12 @@ module _ (s : Schema) (g : Grants) where
     linked scope ys lt bound k within pre (x ∷ xs) e =
         let all : List PredTree = members (rel s t r).pairs ++ ys in
         let q : Equation = equation_of x in
-        let one : list_any (λ y. is_equation_of s far t (table_alias n) (table_alias p) y q) (rel s t r).pairs ≡ true = ap (list_any (λ y. is_equation_of s far t (table_alias n) (table_alias p) y q)) e ∙ any_pair (λ y. is_equation_of s far t (table_alias n) (table_alias p) y q) pre xs x (self_equation x) in
+        let one : list_any (λ y. is_equation_of s far t (table_alias n) (table_alias p) y q) (rel s t r).pairs ≡ true =
+        ap (list_any (λ y. is_equation_of s far t (table_alias n) (table_alias p) y q)) e
+        ∙ any_pair (λ y. is_equation_of s far t (table_alias n) (table_alias p) y q) pre xs x (self_equation x) in
         let whole : is_whole_link s all far t (table_alias n) (table_alias p) q (rel s t r) ≡ true = rw (self_eq far, one) (pairs_found [] (rel s t r).pairs ys) in
-        let some : list_any (is_whole_link s all far t (table_alias n) (table_alias p) q) (table s t).rels ≡ true = any_rel (is_whole_link s all far t (table_alias n) (table_alias p) q) (table s t).rels r within whole in
+        let some : list_any (is_whole_link s all far t (table_alias n) (table_alias p) q) (table s t).rels ≡ true =
+        any_rel (is_whole_link s all far t (table_alias n) (table_alias p) q) (table s t).rels r within whole in
         (rw (table_aliases_differ p n lt bound) (ap (links_shape s all far (table_alias n) q) k ∙ some), linked scope ys lt bound k within (pre ++ (x ∷ [])) xs (e ∙ sym (pairs_shift pre x xs)))
 
     pub link_exempt : (scope : Shapes) (ys : List PredTree) → Ready s g far → p < n → n < 2 ^ 64 → Scans scope p t → r < length (table s t).rels
@@ -116,8 +137,12 @@ module _ (s : Schema) (g : Grants) where
     link_exempt scope ys ready lt bound k within =
         let is : opened (link s t (rel s t r) p n) ≡ members (rel s t r).pairs = link_opened (table s t).columns (table s far).columns p n (rel s t r).pairs in
         subst (λ ms. Each (λ c. is_exempt s g scope (ms ++ ys) (tree.table (table s far).schema (table s far).name (table_alias n)) c ≡ true) ms) (sym is)
-        (exempt_each (λ c. is_linking s scope (members (rel s t r).pairs ++ ys) far (table_alias n) (equation c) ≡ true) (λ c. is_exempt s g scope (members (rel s t r).pairs ++ ys) (tree.table (table s far).schema (table s far).name (table_alias n)) c ≡ true)
-        (λ c h. or_right (is_one_of (filter_conjuncts s g (table_place s (table s far).schema (table s far).name)) (table_alias n) c) (is_linking s scope (members (rel s t r).pairs ++ ys) (table_place s (table s far).schema (table s far).name) (table_alias n) (equation c))
+        (exempt_each (λ c. is_linking s scope (members (rel s t r).pairs ++ ys) far (table_alias n) (equation c) ≡ true)
+        (λ c. is_exempt s g scope (members (rel s t r).pairs ++ ys) (tree.table (table s far).schema (table s far).name (table_alias n)) c
+        ≡ true)
+        (λ c h. or_right (is_one_of (filter_conjuncts s g (table_place s (table s far).schema (table s far).name)) (table_alias n) c)
+        (is_linking s scope (members (rel s t r).pairs ++ ys) (table_place s (table s far).schema (table s far).name) (table_alias n)
+        (equation c))
         (ap (λ u. is_linking s scope (members (rel s t r).pairs ++ ys) u (table_alias n) (equation c)) ready.place ∙ h))
         (members (rel s t r).pairs) (linked scope ys lt bound k within [] (rel s t r).pairs refl))
 
@@ -129,9 +154,14 @@ module _ (s : Schema) (g : Grants) where
       let c : ℕ = m.column in
       let all : List PredTree = opened (own_predicate m.shown s t p (n + 1)) ++ [] in
       let zip : Zip (Alike ((table_alias 0, table_alias p) ∷ [])) (mask_conjuncts s g t c) (opened (own_predicate m.shown s t p (n + 1))) =
-      subst (λ b. Zip (Alike ((table_alias 0, table_alias p) ∷ [])) (opened (own_predicate b s t 0 1)) (opened (own_predicate m.shown s t p (n + 1)))) (sym mask.is) (written m.shown t p (n + 1) (omega arith) (omega arith)) in
+      subst
+      (λ b. Zip (Alike ((table_alias 0, table_alias p) ∷ [])) (opened (own_predicate b s t 0 1))
+      (opened (own_predicate m.shown s t p (n + 1))))
+      (sym mask.is) (written m.shown t p (n + 1) (omega arith) (omega arith)) in
       let stands : stand_among all (mask_conjuncts s g t c) (table_alias p) ≡ true = all_among (table_alias p) (mask_conjuncts s g t c) (opened (own_predicate m.shown s t p (n + 1))) [] [] zip in
-      let ones : list_all (is_one_of (mask_conjuncts s g t c) (table_alias p)) all ≡ true = all_one_of (table_alias p) (mask_conjuncts s g t c) (opened (own_predicate m.shown s t p (n + 1))) (each_one_of (table_alias p) (mask_conjuncts s g t c) (opened (own_predicate m.shown s t p (n + 1))) zip) in
+      let ones : list_all (is_one_of (mask_conjuncts s g t c) (table_alias p)) all ≡ true =
+      all_one_of (table_alias p) (mask_conjuncts s g t c) (opened (own_predicate m.shown s t p (n + 1)))
+      (each_one_of (table_alias p) (mask_conjuncts s g t c) (opened (own_predicate m.shown s t p (n + 1))) zip) in
       let shows : shows_masked s g (table_alias p) all t (Some c) ≡ true = rw (mask.permitted, mask.masked, stands) ones in
       let inner : Shapes = (table_alias n, outputs []) ∷ scope in
       let here : shape_at inner (table_alias p) ≡ scan t = scans_behind scope inner p n t lt (grows_one n (outputs []) scope (omega arith)) k in
@@ -142,9 +172,13 @@ module _ (s : Schema) (g : Grants) where
 
   -- the columns of a row are plain behind the joins of their masks
   abbrev Plain : Shapes → (t p n : ℕ) → List Mask → Type 0
-  Plain final t p n ms = (c : ℕ) → Has s t c → is_permitted (grant g t) c ≡ true → (has_mask (grant g t) c ≡ true → list_any (λ m. m.column == c) ms ≡ true) → is_plain g (origin_at s final (mask_look ms s t p n c).alias (mask_look ms s t p n c).name) ≡ true
+  Plain final t p n ms =
+      (c : ℕ) → Has s t c → is_permitted (grant g t) c ≡ true → (has_mask (grant g t) c ≡ true → list_any (λ m. m.column == c) ms ≡ true)
+      → is_plain g (origin_at s final (mask_look ms s t p n c).alias (mask_look ms s t p n c).name) ≡ true
 
-  masks_clean : (ms : List Mask) (t p n : ℕ) (scope : Shapes) → Ready s g t → Each (IsMask s g t) ms → Scans scope p t → p < n → n + mask_numbers ms s t ≤ 2 ^ 64 → Joined s g scope n (n + mask_numbers ms s t) (mask_joins ms s t p n) (λ final. Plain final t p n ms)
+  masks_clean : (ms : List Mask) (t p n : ℕ) (scope : Shapes) → Ready s g t → Each (IsMask s g t) ms → Scans scope p t → p < n
+      → n + mask_numbers ms s t ≤ 2 ^ 64
+      → Joined s g scope n (n + mask_numbers ms s t) (mask_joins ms s t p n) (λ final. Plain final t p n ms)
   masks_clean [] t p n scope ready f k lt bound =
       joined_none s g scope n (n + 0) (λ final. Plain final t p n [])
       (λ final grown c has permitted masked.
@@ -162,7 +196,11 @@ module _ (s : Schema) (g : Grants) where
       let both = joined_then s g scope n mid top (record { select = mask_select m s t p n; alias = join_alias n } ∷ []) (mask_joins ms s t p mid) V W (omega arith) (omega arith) one wide in
       joined_as s g scope n top top (mask_joins (m ∷ ms) s t p n) (λ final. V final × W final) (λ final. Plain final t p n (m ∷ ms)) (omega arith)
       (λ final h c has permitted masked.
-      let go : (b : Bool) → (m.column == c) ≡ b → is_plain g (origin_at s final (cond b (value_place n) (mask_look ms s t p mid c)).alias (cond b (value_place n) (mask_look ms s t p mid c)).name) ≡ true =
+      let go : (b : Bool) → (m.column == c) ≡ b
+      → is_plain g
+      (origin_at s final (cond b (value_place n) (mask_look ms s t p mid c)).alias
+      (cond b (value_place n) (mask_look ms s t p mid c)).name)
+      ≡ true =
       elim [
         | true ↦ λ e. h.0
         | false ↦ λ e. h.1 c has permitted (λ is. ap (λ b. b || list_any (λ x. x.column == c) ms) (sym e) ∙ masked is)
@@ -189,7 +227,8 @@ module _ (s : Schema) (g : Grants) where
   used_mask : (c : ℕ) (cs : List ℕ) → is_used c cs ≡ true → (ms : List Mask) → list_any (λ m. m.column == c) ms ≡ true → list_any (λ m. m.column == c) (filter (λ m. is_used m.column cs) ms) ≡ true
   used_mask c cs used [] h = absurd cc
   used_mask c cs used (m ∷ ms) h =
-      let go : (b d : Bool) → (m.column == c) ≡ b → is_used m.column cs ≡ d → (b || list_any (λ x. x.column == c) ms) ≡ true → list_any (λ x. x.column == c) (cond d (m ∷ filter (λ x. is_used x.column cs) ms) (filter (λ x. is_used x.column cs) ms)) ≡ true =
+      let go : (b d : Bool) → (m.column == c) ≡ b → is_used m.column cs ≡ d → (b || list_any (λ x. x.column == c) ms) ≡ true
+      → list_any (λ x. x.column == c) (cond d (m ∷ filter (λ x. is_used x.column cs) ms) (filter (λ x. is_used x.column cs) ms)) ≡ true =
       elim [
         | true ↦ elim [
           | true ↦ λ e f k. or_left (m.column == c) (list_any (λ x. x.column == c) (filter (λ x. is_used x.column cs) ms)) e
@@ -207,7 +246,8 @@ module _ (s : Schema) (g : Grants) where
       → Joined s g scope (n + 1) (n + 1 + extra s (rights_of g) u cs) (masks s (rights_of g) u cs n) (λ final. Shows s g final (shown_look s (rights_of g) u cs n) cs)
   shown_clean u n cs scope ready permits k bound =
       let ms : List Mask = used_masks (rights_of g) u cs in
-      joined_as s g scope (n + 1) (n + 1 + extra s (rights_of g) u cs) (n + 1 + extra s (rights_of g) u cs) (masks s (rights_of g) u cs n) (λ final. Plain final u n (n + 1) ms) (λ final. Shows s g final (shown_look s (rights_of g) u cs n) cs) (omega arith)
+      joined_as s g scope (n + 1) (n + 1 + extra s (rights_of g) u cs) (n + 1 + extra s (rights_of g) u cs) (masks s (rights_of g) u cs n)
+      (λ final. Plain final u n (n + 1) ms) (λ final. Shows s g final (shown_look s (rights_of g) u cs n) cs) (omega arith)
       (λ final h c used. h c (permits c used).0 (permits c used).1 (λ is. used_mask c cs used (grant g u).masks is))
       (masks_clean ms u n (n + 1) scope ready (each_used (IsMask s g u) (λ m. is_used m.column cs) (grant g u).masks ready.masks) k (omega arith) bound)
 

@@ -54,18 +54,26 @@ module _ (s : Schema) (g : Grants) where
   row_behind before after p n t lt grown own r within = scans_behind before after p n t lt grown (own r within)
 
   -- the value of a join without faults
-  value_joined : (scope : Shapes) (n m : ℕ) (q : SelectTree) → n < m → n < 2 ^ 64 → First s g scope q → Joined s g scope n m (record { select = q; alias = join_alias n } ∷ []) (λ final. expr_faults s g final (cell_at (value_place n)) ≡ [])
+  value_joined : (scope : Shapes) (n m : ℕ) (q : SelectTree) → n < m → n < 2 ^ 64 → First s g scope q
+      → Joined s g scope n m (record { select = q; alias = join_alias n } ∷ [])
+      (λ final. expr_faults s g final (cell_at (value_place n)) ≡ [])
   value_joined scope n m q lt bound first =
-      joined_as s g scope n m m (record { select = q; alias = join_alias n } ∷ []) (λ final. is_plain g (origin_at s final (join_alias n) value_name) ≡ true) (λ final. expr_faults s g final (cell_at (value_place n)) ≡ []) (omega arith)
+      joined_as s g scope n m m (record { select = q; alias = join_alias n } ∷ [])
+      (λ final. is_plain g (origin_at s final (join_alias n) value_name) ≡ true)
+      (λ final. expr_faults s g final (cell_at (value_place n)) ≡ []) (omega arith)
       (λ final h. column_clean s g final (join_alias n) value_name Plain h) (joined_one s g scope n m q lt bound first)
 
   -- what is used of an alias stays plain behind more joins
-  shown_later : (at final : Shapes) (u n behind : ℕ) (cs more : List ℕ) → n + 1 + extra s R u cs ≤ behind → behind ≤ 2 ^ 64 → Grows behind at final → Shows s g at (shown_look s R u cs n) more → Shows s g final (shown_look s R u cs n) more
+  shown_later : (at final : Shapes) (u n behind : ℕ) (cs more : List ℕ) → n + 1 + extra s R u cs ≤ behind → behind ≤ 2 ^ 64
+      → Grows behind at final → Shows s g at (shown_look s R u cs n) more → Shows s g final (shown_look s R u cs n) more
   shown_later at final u n behind cs more le bound grown shown =
-      shows_behind s g at final behind (shown_look s R u cs n) more grown (looks_under_later (n + 1 + extra s R u cs) behind (shown_look s R u cs n) le (shown_under s g u n cs (omega (arith, le, bound)))) shown
+      shows_behind s g at final behind (shown_look s R u cs n) more grown
+      (looks_under_later (n + 1 + extra s R u cs) behind (shown_look s R u cs n) le (shown_under s g u n cs (omega (arith, le, bound))))
+      shown
 
   -- a list is tied to the row around it
-  origin_ties : (o : From) (t p n : ℕ) (scope final : Shapes) (cs : List ℕ) → AllowedOrigin o s g t → p < n → n < 2 ^ 64 → RowAt scope p t → Behind s g scope (origin_table o s t) n cs final → IsTied s g final (origin_table o s t) n (origin_tie o s t p n)
+  origin_ties : (o : From) (t p n : ℕ) (scope final : Shapes) (cs : List ℕ) → AllowedOrigin o s g t → p < n → n < 2 ^ 64 → RowAt scope p t
+      → Behind s g scope (origin_table o s t) n cs final → IsTied s g final (origin_table o s t) n (origin_tie o s t p n)
   origin_ties (from_table u) t p n scope final cs f lt bound own b = λ ys. refl
   origin_ties (along r) t p n scope final cs f lt bound own b = link_ties s g t r p n scope final cs f lt bound (own r f.within) b
 
@@ -95,7 +103,9 @@ module _ (s : Schema) (g : Grants) where
       let look : Look = shown_look s R u (key_used s u fs) n in
       let tie : PredTree = joined_by_and (key_members (table s u).columns look (table s u).key key) in
       clean_free s g final (is_exempt s g final (opened tie ++ ys) (from_of s g u n)) tie
-      (and_clean s g final (key_members (table s u).columns look (table s u).key key) (members_clean final (table s u).columns look (table s u).key key (shows_left s g final look (table s u).key (fields_used fs) b.shown)))
+      (and_clean s g final (key_members (table s u).columns look (table s u).key key)
+      (members_clean final (table s u).columns look (table s u).key key
+      (shows_left s g final look (table s u).key (fields_used fs) b.shown)))
 
   -- no row: the value of a field that no table answers
   empty_first : (scope : Shapes) (n : ℕ) → First s g scope (empty_select n)
@@ -109,8 +119,12 @@ module _ (s : Schema) (g : Grants) where
   list_at : (o : From) (a : ListArguments) (fs : FieldTrees) (scope : Shapes) (t p n : ℕ) → AllowedOrigin o s g t → AllowedList s g (origin_table o s t) a (fields_used fs) → RowAt scope p t → p < n
       → n + (list_numbers s R (origin_table o s t) (list_used s (origin_table o s t) a (fields_used fs)) a + fields_numbers fs s R (origin_table o s t)) ≤ 2 ^ 64
       → ((here : Shapes) → Behind s g scope (origin_table o s t) n (list_used s (origin_table o s t) a (fields_used fs)) here
-      → ((final : Shapes) → Grows (kids_from s R (origin_table o s t) a fs n) here final → Shows s g final (shown_look s R (origin_table o s t) (list_used s (origin_table o s t) a (fields_used fs)) n) (fields_used fs))
-      → Joined s g here (kids_from s R (origin_table o s t) a fs n) (kids_from s R (origin_table o s t) a fs n + fields_numbers fs s R (origin_table o s t)) (fields_joins fs s R (origin_table o s t) n (kids_from s R (origin_table o s t) a fs n))
+      →
+      ((final : Shapes) → Grows (kids_from s R (origin_table o s t) a fs n) here final
+      → Shows s g final (shown_look s R (origin_table o s t) (list_used s (origin_table o s t) a (fields_used fs)) n) (fields_used fs))
+      → Joined s g here (kids_from s R (origin_table o s t) a fs n)
+      (kids_from s R (origin_table o s t) a fs n + fields_numbers fs s R (origin_table o s t))
+      (fields_joins fs s R (origin_table o s t) n (kids_from s R (origin_table o s t) a fs n))
       (ValuesClean fs (shown_look s R (origin_table o s t) (list_used s (origin_table o s t) a (fields_used fs)) n) (origin_table o s t) (kids_from s R (origin_table o s t) a fs n)))
       → Joined s g scope n (n + (list_numbers s R (origin_table o s t) (list_used s (origin_table o s t) a (fields_used fs)) a + fields_numbers fs s R (origin_table o s t)))
       (list_join s R o t p a fs n (fields_joins fs s R (origin_table o s t) n (kids_from s R (origin_table o s t) a fs n)) ∷ []) (λ final. expr_faults s g final (cell_at (value_place n)) ≡ [])
@@ -120,14 +134,19 @@ module _ (s : Schema) (g : Grants) where
       let kid : ℕ = children_from s R u cs a n in
       let m : ℕ = kid + fields_numbers fs s R u in
       let inner : Look = shown_look s R u cs n in
-      let first = list_first s g scope u n m a (fields_used fs) (origin_tie o s t p n) (fields_values fs s R inner u kid) (fields_joins fs s R u n kid) (ValuesClean fs inner u kid) (origin_ready o t fo) fa (omega arith) (omega arith)
+      let first =
+      list_first s g scope u n m a (fields_used fs) (origin_tie o s t p n) (fields_values fs s R inner u kid)
+      (fields_joins fs s R u n kid) (ValuesClean fs inner u kid) (origin_ready o t fo) fa (omega arith) (omega arith)
       (λ final b. origin_ties o t p n scope final cs fo lt (omega arith) own b)
       (λ here b. fields here b (λ final grown. shown_later here final u n kid cs (fields_used fs) (omega arith) (omega arith) grown (shows_more s g here u n a (fields_used fs) b.shown)))
       (λ final h. h) in
-      value_joined scope n (n + (list_numbers s R u cs a + fields_numbers fs s R u)) (list_select s R u cs a n (origin_tie o s t p n) (fields_values fs s R inner u kid) (fields_joins fs s R u n kid)) (omega arith) (omega arith) first
+      value_joined scope n (n + (list_numbers s R u cs a + fields_numbers fs s R u))
+      (list_select s R u cs a n (origin_tie o s t p n) (fields_values fs s R inner u kid) (fields_joins fs s R u n kid)) (omega arith)
+      (omega arith) first
 
   mutual
-    pub fields_joined : (fs : FieldTrees) (scope : Shapes) (t p n : ℕ) (look : Look) → AllowedFields fs s g t → RowAt scope p t → p < n → n + fields_numbers fs s R t ≤ 2 ^ 64 → ((final : Shapes) → Grows n scope final → Shows s g final look (fields_used fs))
+    pub fields_joined : (fs : FieldTrees) (scope : Shapes) (t p n : ℕ) (look : Look) → AllowedFields fs s g t → RowAt scope p t → p < n
+        → n + fields_numbers fs s R t ≤ 2 ^ 64 → ((final : Shapes) → Grows n scope final → Shows s g final look (fields_used fs))
         → Joined s g scope n (n + fields_numbers fs s R t) (fields_joins fs s R t p n) (ValuesClean fs look t n)
     fields_joined no_field scope t p n look f own lt bound shown = joined_none s g scope n (n + 0) (ValuesClean no_field look t n) (λ final grown. refl)
     fields_joined (field key x fs) scope t p n look f own lt bound shown =
@@ -136,15 +155,24 @@ module _ (s : Schema) (g : Grants) where
         let first = field_joined x scope t p n look f.0 own lt (omega arith) (λ final grown. shows_left s g final look (field_used x) (fields_used fs) (shown final grown)) in
         let rest = fields_joined fs first.after t p mid look f.1 (row_behind scope first.after p n t lt first.grows own) (omega arith) (omega arith)
         (λ final grown. shows_right s g final look (field_used x) (fields_used fs) (shown final (λ a u. grown a (under_later n mid a (omega arith) u) ∙ first.grows a u))) in
-        let wide = joined_as s g first.after mid (mid + fields_numbers fs s R t) top (fields_joins fs s R t p mid) (ValuesClean fs look t mid) (ValuesClean fs look t mid) (omega arith) (λ final h. h) rest in
-        let both = joined_then s g scope n mid top (field_joins x s R t p n) (fields_joins fs s R t p mid) (λ final. expr_faults s g final (field_value x (table s t).columns look n) ≡ []) (ValuesClean fs look t mid) (omega arith) (omega arith) first wide in
-        joined_as s g scope n top top (fields_joins (field key x fs) s R t p n) (λ final. (expr_faults s g final (field_value x (table s t).columns look n) ≡ []) × ValuesClean fs look t mid final) (ValuesClean (field key x fs) look t n) (omega arith) (λ final h. none _ _ h.0 h.1) both
+        let wide =
+        joined_as s g first.after mid (mid + fields_numbers fs s R t) top (fields_joins fs s R t p mid) (ValuesClean fs look t mid)
+        (ValuesClean fs look t mid) (omega arith) (λ final h. h) rest in
+        let both =
+        joined_then s g scope n mid top (field_joins x s R t p n) (fields_joins fs s R t p mid)
+        (λ final. expr_faults s g final (field_value x (table s t).columns look n) ≡ []) (ValuesClean fs look t mid) (omega arith)
+        (omega arith) first wide in
+        joined_as s g scope n top top (fields_joins (field key x fs) s R t p n)
+        (λ final. (expr_faults s g final (field_value x (table s t).columns look n) ≡ []) × ValuesClean fs look t mid final)
+        (ValuesClean (field key x fs) look t n) (omega arith) (λ final h. none _ _ h.0 h.1) both
 
-    field_joined : (x : FieldTree) (scope : Shapes) (t p n : ℕ) (look : Look) → AllowedField x s g t → RowAt scope p t → p < n → n + field_numbers x s R t ≤ 2 ^ 64 → ((final : Shapes) → Grows n scope final → Shows s g final look (field_used x))
+    field_joined : (x : FieldTree) (scope : Shapes) (t p n : ℕ) (look : Look) → AllowedField x s g t → RowAt scope p t → p < n
+        → n + field_numbers x s R t ≤ 2 ^ 64 → ((final : Shapes) → Grows n scope final → Shows s g final look (field_used x))
         → Joined s g scope n (n + field_numbers x s R t) (field_joins x s R t p n) (λ final. expr_faults s g final (field_value x (table s t).columns look n) ≡ [])
     field_joined (column c) scope t p n look f own lt bound shown =
         joined_none s g scope n (n + 0) (λ final. expr_faults s g final (shown_at (table s t).columns (look c) c) ≡ [])
-        (λ final grown. column_clean s g final (look c).alias (look c).name (shown_form (type_in (table s t).columns c)) (shown final (λ a u. grown a (under_later n (n + 0) a (omega arith) u)) c (used_one c)))
+        (λ final grown. column_clean s g final (look c).alias (look c).name (shown_form (type_in (table s t).columns c))
+        (shown final (λ a u. grown a (under_later n (n + 0) a (omega arith) u)) c (used_one c)))
     field_joined (typename name) scope t p n look f own lt bound shown = joined_none s g scope n (n + 0) (λ final. expr_faults s g final (tree.text name) ≡ []) (λ final grown. refl)
     field_joined no_queries scope t p n look f own lt bound shown = value_joined scope n (n + 1) (empty_select n) (omega arith) (omega arith) (empty_first scope n)
     field_joined (introspect q) scope t p n look f own lt bound shown = value_joined scope n (n + 1) (empty_select n) (omega arith) (omega arith) (empty_first scope n)
@@ -164,7 +192,9 @@ module _ (s : Schema) (g : Grants) where
     field_joined (list o a fs) scope t p n look f own lt bound shown =
         let u : ℕ = origin_table o s t in
         let kid : ℕ = kids_from s R u a fs n in
-        list_at o a fs scope t p n f.0 f.1 own lt bound (λ here b seen. fields_joined fs here u n kid (shown_look s R u (list_used s u a (fields_used fs)) n) f.2 (λ r w. b.own) (omega arith) (omega arith) seen)
+        list_at o a fs scope t p n f.0 f.1 own lt bound
+        (λ here b seen. fields_joined fs here u n kid (shown_look s R u (list_used s u a (fields_used fs)) n) f.2 (λ r w. b.own)
+        (omega arith) (omega arith) seen)
     field_joined (by_key u key fs) scope t p n look f own lt bound shown =
         let cs : List ℕ = key_used s u fs in
         let behind : ℕ = behind_filter s R u cs n in
@@ -191,9 +221,13 @@ module _ (s : Schema) (g : Grants) where
         value_joined scope n m (parts_select n (parts_values ps s R u a (n + 1)) J) (omega arith) (omega arith)
         (one_first s g scope n (pairs_of (parts_values ps s R u a (n + 1))) J tree.no_filter (joins_clean s g within (n + 1) (n + 1 + parts_numbers ps s R u a) J _ j) values refl)
 
-    parts_joined : (ps : PartTrees) (scope : Shapes) (o : From) (t p : ℕ) (a : ListArguments) (n : ℕ) → AllowedOrigin o s g t → AllowedParts ps s g (origin_table o s t) a → RowAt scope p t → p < n → n + parts_numbers ps s R (origin_table o s t) a ≤ 2 ^ 64
-        → Joined s g scope n (n + parts_numbers ps s R (origin_table o s t) a) (parts_joins ps s R o t p a n) (λ final. pairs_faults s g final (pairs_of (parts_values ps s R (origin_table o s t) a n)) ≡ [])
-    parts_joined no_part scope o t p a n fo f own lt bound = joined_none s g scope n (n + 0) (λ final. pairs_faults s g final (pairs_of (parts_values no_part s R (origin_table o s t) a n)) ≡ []) (λ final grown. refl)
+    parts_joined : (ps : PartTrees) (scope : Shapes) (o : From) (t p : ℕ) (a : ListArguments) (n : ℕ) → AllowedOrigin o s g t
+        → AllowedParts ps s g (origin_table o s t) a → RowAt scope p t → p < n → n + parts_numbers ps s R (origin_table o s t) a ≤ 2 ^ 64
+        → Joined s g scope n (n + parts_numbers ps s R (origin_table o s t) a) (parts_joins ps s R o t p a n)
+        (λ final. pairs_faults s g final (pairs_of (parts_values ps s R (origin_table o s t) a n)) ≡ [])
+    parts_joined no_part scope o t p a n fo f own lt bound =
+        joined_none s g scope n (n + 0)
+        (λ final. pairs_faults s g final (pairs_of (parts_values no_part s R (origin_table o s t) a n)) ≡ []) (λ final grown. refl)
     parts_joined (part key x ps) scope o t p a n fo f own lt bound =
         let u : ℕ = origin_table o s t in
         let mid : ℕ = n + part_numbers x s R u a in
@@ -204,16 +238,21 @@ module _ (s : Schema) (g : Grants) where
         let rest = parts_joined ps first.after o t p a mid fo f.1 (row_behind scope first.after p n t lt first.grows own) (omega arith) (omega arith) in
         let wide = joined_as s g first.after mid (mid + parts_numbers ps s R u a) top (parts_joins ps s R o t p a mid) W W (omega arith) (λ final h. h) rest in
         let both = joined_then s g scope n mid top (part_joins x s R o t p a n) (parts_joins ps s R o t p a mid) V W (omega arith) (omega arith) first wide in
-        joined_as s g scope n top top (parts_joins (part key x ps) s R o t p a n) (λ final. V final × W final) (λ final. pairs_faults s g final (pairs_of (parts_values (part key x ps) s R u a n)) ≡ []) (omega arith) (λ final h. none _ _ h.0 h.1) both
+        joined_as s g scope n top top (parts_joins (part key x ps) s R o t p a n) (λ final. V final × W final)
+        (λ final. pairs_faults s g final (pairs_of (parts_values (part key x ps) s R u a n)) ≡ []) (omega arith)
+        (λ final h. none _ _ h.0 h.1) both
 
-    part_joined : (x : PartTree) (scope : Shapes) (o : From) (t p : ℕ) (a : ListArguments) (n : ℕ) → AllowedOrigin o s g t → AllowedPart x s g (origin_table o s t) a → RowAt scope p t → p < n → n + part_numbers x s R (origin_table o s t) a ≤ 2 ^ 64
+    part_joined : (x : PartTree) (scope : Shapes) (o : From) (t p : ℕ) (a : ListArguments) (n : ℕ) → AllowedOrigin o s g t
+        → AllowedPart x s g (origin_table o s t) a → RowAt scope p t → p < n → n + part_numbers x s R (origin_table o s t) a ≤ 2 ^ 64
         → Joined s g scope n (n + part_numbers x s R (origin_table o s t) a) (part_joins x s R o t p a n) (λ final. expr_faults s g final (part_value x n) ≡ [])
     part_joined (summary fs) scope o t p a n fo f own lt bound =
         let u : ℕ = origin_table o s t in
         let L : ℕ = list_numbers s R u (summary_used s u a fs) a in
         let tie : PredTree = origin_tie o s t p n in
         let go : (b : Bool) → some_aggregate fs ≡ b → n + cond b L 1 ≤ 2 ^ 64
-        → Joined s g scope n (n + cond b L 1) (record { select = cond b (folded_select fs s R u a n tie) (plain_select fs s u n); alias = join_alias n } ∷ []) (λ final. expr_faults s g final (cell_at (value_place n)) ≡ []) =
+        → Joined s g scope n (n + cond b L 1)
+        (record { select = cond b (folded_select fs s R u a n tie) (plain_select fs s u n); alias = join_alias n } ∷ [])
+        (λ final. expr_faults s g final (cell_at (value_place n)) ≡ []) =
         elim [
           | true ↦ λ e le.
               value_joined scope n (n + L) (folded_select fs s R u a n tie) (omega arith) (omega (arith, le))
@@ -224,7 +263,9 @@ module _ (s : Schema) (g : Grants) where
     part_joined (nodes fs) scope o t p a n fo f own lt bound =
         let u : ℕ = origin_table o s t in
         let kid : ℕ = kids_from s R u a fs n in
-        list_at o a fs scope t p n fo f.0 own lt bound (λ here b seen. fields_joined fs here u n kid (shown_look s R u (list_used s u a (fields_used fs)) n) f.1 (λ r w. b.own) (omega arith) (omega arith) seen)
+        list_at o a fs scope t p n fo f.0 own lt bound
+        (λ here b seen. fields_joined fs here u n kid (shown_look s R u (list_used s u a (fields_used fs)) n) f.1 (λ r w. b.own)
+        (omega arith) (omega arith) seen)
     part_joined (part_typename name) scope o t p a n fo f own lt bound = joined_none s g scope n (n + 0) (λ final. expr_faults s g final (tree.text name) ≡ []) (λ final grown. refl)
 
   -- ---- statements
@@ -243,7 +284,8 @@ module _ (s : Schema) (g : Grants) where
       let none_there : length (table s (length s)).rels ≡ 0 = ap (λ x. length x.rels) (beyond s) in
       let own : RowAt within 0 (length s) = λ r w. absurd (omega (arith, w, none_there)) in
       let shown : (final : Shapes) → Grows 1 within final → Shows s g final look (fields_used fs) =
-      λ final grown c used. ap (λ sh. is_plain g (origin_in s sh (table_alias 0) (look c).name)) (grown (table_alias 0) (under_table 0) ∙ ap (λ b. cond b (outputs []) (outputs [])) (same_text (table_alias 0))) in
+      λ final grown c used. ap (λ sh. is_plain g (origin_in s sh (table_alias 0) (look c).name))
+      (grown (table_alias 0) (under_table 0) ∙ ap (λ b. cond b (outputs []) (outputs [])) (same_text (table_alias 0))) in
       let j = fields_joined fs within (length s) 0 1 look f own (omega arith) bound shown in
       let shapes : joined_shapes s g within (joins_of J) ≡ j.after = joins_shapes s g within 1 top J _ j in
       let values : pairs_faults s g (joined_shapes s g within (joins_of J)) (pairs_of (fields_values fs s R look (length s) 1)) ≡ [] =

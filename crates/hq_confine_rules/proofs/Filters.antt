@@ -101,7 +101,12 @@ any_rel p (x ∷ rs) (suc r) lt h = or_right (p x) (list_any p rs) (any_rel p rs
 
 opened_link : (columns remote : List Column) (p q : ℕ) (xs : List Pair) → all_opened (preds_of (link_members columns remote p q xs)) ≡ link_members columns remote p q xs
 opened_link columns remote p q [] = refl
-opened_link columns remote p q (x ∷ xs) = ap (λ l. tree.test (compared_at remote (own_look remote q x.remote) x.remote) (Compare Eq) (compared_at columns (own_look columns p x.own) x.own ∷ []) ∷ l) (opened_link columns remote p q xs)
+opened_link columns remote p q (x ∷ xs) =
+    ap
+    (λ l. tree.test (compared_at remote (own_look remote q x.remote) x.remote) (Compare Eq)
+    (compared_at columns (own_look columns p x.own) x.own ∷ [])
+    ∷ l)
+    (opened_link columns remote p q xs)
 
 -- the conjuncts of a link are its equations
 pub link_opened : (columns remote : List Column) (p q : ℕ) (xs : List Pair) → opened (joined_by_and (link_members columns remote p q xs)) ≡ link_members columns remote p q xs

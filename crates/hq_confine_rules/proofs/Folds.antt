@@ -53,9 +53,12 @@ module _ (s : Schema) (g : Grants) (t p : ℕ) (look : Look) (final : Shapes) wh
       ap (may_pass s g) (own_origin s g final p t c ready h.0 own) ∙ or_right (is_plain g (of t (table_alias p ∷ []) c)) (is_key s t c) k.0 in
       rw passes (own_outs ready own cs (m + 0) (i + 1) h.1 k.1)
 
-  pub keys_clean : Ready s g t → Scans final p t → (es : List SortKey) (cs : List ℕ) (m i : ℕ) → EntriesPlain s g t p look final es m → Each (Has s t) cs → Each (λ c. is_key s t c ≡ true) cs → outs_faults s g final (key_outs (shown_sorts es (own_sorts cs)) m i) ≡ []
+  pub keys_clean : Ready s g t → Scans final p t → (es : List SortKey) (cs : List ℕ) (m i : ℕ) → EntriesPlain s g t p look final es m
+      → Each (Has s t) cs → Each (λ c. is_key s t c ≡ true) cs → outs_faults s g final (key_outs (shown_sorts es (own_sorts cs)) m i) ≡ []
   keys_clean ready own [] cs m i e h k = own_outs ready own cs m i h k
-  keys_clean ready own (x ∷ es) cs m i e h k = none _ _ (plain_out s g final (place_at s g t p look x m) e.0) (keys_clean ready own es cs (m + sort_numbers x.through s (rights_of g) t x.column) (i + 1) e.1 h k)
+  keys_clean ready own (x ∷ es) cs m i e h k =
+      none _ _ (plain_out s g final (place_at s g t p look x m) e.0)
+      (keys_clean ready own es cs (m + sort_numbers x.through s (rights_of g) t x.column) (i + 1) e.1 h k)
 
   -- ---- the fold of number n, whose alias shows these outputs
 
@@ -81,7 +84,9 @@ module _ (s : Schema) (g : Grants) (t p : ℕ) (look : Look) (final : Shapes) wh
     behind_keys [] i = i
     behind_keys (k ∷ ks) i = behind_keys ks (i + 1)
 
-    fold_split : (es : List SortKey) (cs : List ℕ) (i : ℕ) → orders_of (output_orders (shown_sorts es (own_sorts cs)) s t n i) ≡ in_front (fold_entries es i) (orders_of (output_orders (own_sorts cs) s t n (behind_keys es i)))
+    fold_split : (es : List SortKey) (cs : List ℕ) (i : ℕ)
+        → orders_of (output_orders (shown_sorts es (own_sorts cs)) s t n i)
+        ≡ in_front (fold_entries es i) (orders_of (output_orders (own_sorts cs) s t n (behind_keys es i)))
     fold_split [] cs i = refl
     fold_split (k ∷ es) cs i = ap (tree.order (tree.column (fold_alias n) (key_name i) (sort_form s t k)) k.desc k.nulls_first) (fold_split es cs (i + 1))
 
@@ -96,7 +101,8 @@ module _ (s : Schema) (g : Grants) (t p : ℕ) (look : Look) (final : Shapes) wh
     entries_passed (k ∷ es) cs m i r e le =
         let x : Sort = record { own = false; key = k } in
         let later = entries_passed es cs (m + sort_numbers k.through s (rights_of g) t k.column) (i + 1) (rest_next x (shown_sorts es (own_sorts cs)) m i r) e.1 (omega (arith, le)) in
-        let here : output_named all (key_name i) ≡ origin_at s final (place_at s g t p look k m).alias (place_at s g t p look k m).name = r i (omega arith) (omega (arith, le)) ∙ rw (same_text (key_name i)) refl in
+        let here : output_named all (key_name i) ≡ origin_at s final (place_at s g t p look k m).alias (place_at s g t p look k m).name =
+        r i (omega arith) (omega (arith, le)) ∙ rw (same_text (key_name i)) refl in
         let plain : is_plain g (origin_at s inner (fold_alias n) (key_name i)) ≡ true =
         ap (is_plain g) (fold_cell (key_name i)) ∙ behind_plain s g (fold_alias n) (output_named all (key_name i)) (ap (is_plain g) here ∙ e.0) in
         ((column_clean s g inner (fold_alias n) (key_name i) (sort_form s t k) plain, later.0), later.1)
@@ -105,7 +111,8 @@ module _ (s : Schema) (g : Grants) (t p : ℕ) (look : Look) (final : Shapes) wh
     passed = fold_alias n ∷ (table_alias p ∷ [])
 
     -- and those of the key are its run, passed on
-    keys_passed : Ready s g t → Scans final p t → (cs : List ℕ) (m i : ℕ) → Rest (own_sorts cs) m i → Each (Has s t) cs → i + length cs ≤ 2 ^ 64 → is_run s inner t passed cs (orders_of (output_orders (own_sorts cs) s t n i)) ≡ true
+    keys_passed : Ready s g t → Scans final p t → (cs : List ℕ) (m i : ℕ) → Rest (own_sorts cs) m i → Each (Has s t) cs
+        → i + length cs ≤ 2 ^ 64 → is_run s inner t passed cs (orders_of (output_orders (own_sorts cs) s t n i)) ≡ true
     keys_passed ready own [] m i r h le = refl
     keys_passed ready own (c ∷ cs) m i r h le =
         let x : Sort = record { own = true; key = record { through = []; column = c; desc = false; nulls_first = false } } in
@@ -132,7 +139,10 @@ module _ (s : Schema) (g : Grants) (t p : ℕ) (look : Look) (final : Shapes) wh
           rest = ready.rest;
           key = ready.keyed;
           differ = ready.differ;
-          run = subst (λ ks. is_run s inner t passed ks K ≡ true) ready.keyed (keys_passed ready own cs (behind_sorts s g t p look es m) (behind_keys es 0) entries.1 ready.key (omega (arith, few, many, from)));
+          run =
+              subst (λ ks. is_run s inner t passed ks K ≡ true) ready.keyed
+              (keys_passed ready own cs (behind_sorts s g t p look es m) (behind_keys es 0) entries.1 ready.key
+              (omega (arith, few, many, from)));
           whole = keys_size cs (behind_keys es 0) ∙ ap length ready.keyed;
         } in
         ap (orders_faults s g inner 0) (fold_split es cs 0) ∙ covered s g inner t passed K run 0 (fold_entries es 0) (omega arith) entries.0

@@ -35,7 +35,10 @@ module _ (s : Schema) (g : Grants) where
   distinct_clean : (final : Shapes) (columns : List Column) (look : Look) (cs : List ℕ) → Shows s g final look cs → exprs_faults s g final (distinct_columns columns look cs) ≡ []
   distinct_clean final columns look [] k = refl
   distinct_clean final columns look (c ∷ cs) k =
-      none _ _ (column_clean s g final (look c).alias (look c).name (compared_form (type_in columns c)) (k c (used_left c (c ∷ []) cs (used_one c)))) (distinct_clean final columns look cs (λ d used. k d (used_right d (c ∷ []) cs used)))
+      none _ _
+      (column_clean s g final (look c).alias (look c).name (compared_form (type_in columns c))
+      (k c (used_left c (c ∷ []) cs (used_one c))))
+      (distinct_clean final columns look cs (λ d used. k d (used_right d (c ∷ []) cs used)))
 
   -- what stands behind the joins of a list: the masks of its rows, its sort keys and its children
   abbrev pub ListSeen : (scope : Shapes) → (u n : ℕ) → ListArguments → (more : List ℕ) → (V : Shapes → Type 0) → Shapes → Type 0
@@ -66,7 +69,9 @@ module _ (s : Schema) (g : Grants) where
       let sorts : List JoinTree = sorts_joins ks s R u n at in
       let both : (here : Shapes) → Behind s g scope u n cs here → Joined s g here mid m (sorts ++ J) (λ final. E final × V final) =
       λ here b.
-      let uses : (final : Shapes) → Shows s g final look cs → Shows s g final look (used_sorts ks) = λ final k. shows_left s g final look (used_sorts ks) ((once a).distinct ++ more) (shows_right s g final look (columns_in a.wanted) (used_sorts ks ++ ((once a).distinct ++ more)) k) in
+      let uses : (final : Shapes) → Shows s g final look cs → Shows s g final look (used_sorts ks) =
+      λ final k. shows_left s g final look (used_sorts ks) ((once a).distinct ++ more)
+      (shows_right s g final look (columns_in a.wanted) (used_sorts ks ++ ((once a).distinct ++ more)) k) in
       let first = sorts_joined s g u n look es (table s u).key here at sorted b.own (omega arith) (omega (arith, le, bound))
       (λ final grown. uses final (shows_behind s g here final at look cs grown (looks_under_later mid at look (omega arith) (shown_under s g u n cs (omega (arith, le, bound)))) b.shown)) in
       let after : Behind s g scope u n cs first.after = record {
@@ -78,11 +83,17 @@ module _ (s : Schema) (g : Grants) where
       alias_joins s g scope u n m cs (sorts ++ J) (λ final. E final × V final) ready permits (omega (arith, le)) bound both
 
   -- the rows of a list of table u at the alias of number n, their tie, outputs and children given
-  pub list_clean : (scope : Shapes) (counts : Bool) (u n m : ℕ) (a : ListArguments) (more : List ℕ) (tie : PredTree) (limit : Option ℕ) (outs : List OutTree) (J : List JoinTree) (V : Shapes → Type 0) → Ready s g u → Permits s g u (list_used s u a more)
+  pub list_clean : (scope : Shapes) (counts : Bool) (u n m : ℕ) (a : ListArguments) (more : List ℕ) (tie : PredTree) (limit : Option ℕ)
+      (outs : List OutTree) (J : List JoinTree) (V : Shapes → Type 0)
+      → Ready s g u → Permits s g u (list_used s u a more)
       → Allowed a.wanted s g u → Each (λ k. AllowedSort s g u (record { own = false; key = k })) (entries (once a)) → children_from s (rights_of g) u (list_used s u a more) a n ≤ m → m ≤ 2 ^ 64
       → ((final : Shapes) → Behind s g scope u n (list_used s u a more) final → IsTied s g final u n tie)
       → ((here : Shapes) → Behind s g scope u n (list_used s u a more) here → Joined s g here (children_from s (rights_of g) u (list_used s u a more) a n) m J V)
-      → ((final : Shapes) → Behind s g scope u n (list_used s u a more) final → EntriesPlain s g u n (shown_look s (rights_of g) u (list_used s u a more) n) final (entries (once a)) (sorts_from s (rights_of g) u (list_used s u a more) a n) → V final → outs_faults s g final outs ≡ [])
+      →
+      ((final : Shapes) → Behind s g scope u n (list_used s u a more) final
+      → EntriesPlain s g u n (shown_look s (rights_of g) u (list_used s u a more) n) final (entries (once a))
+      (sorts_from s (rights_of g) u (list_used s u a more) a n)
+      → V final → outs_faults s g final outs ≡ [])
       → select_faults s g scope counts (list_rows s (rights_of g) u (list_used s u a more) a n tie limit outs J) ≡ []
   list_clean scope counts u n m a more tie limit outs J V ready permits wanted sorted le bound tied kids shown =
       let R : Rights = rights_of g in
@@ -101,13 +112,18 @@ module _ (s : Schema) (g : Grants) where
       let A : PredTree = filter_predicate s R u n mid in
       let B : PredTree = predicate a.wanted s (where_mode s R) look u n behind in
       let under = looks_under_later mid behind look (omega arith) (shown_under s g u n cs (omega (arith, le, bound))) in
-      let inner = wanted_clean s g a.wanted look u n behind final wanted seen.0.own (omega arith) (shows_left s g final look (columns_in a.wanted) (used_sorts ks ++ ((once a).distinct ++ more)) seen.0.shown) under (omega (arith, le, bound)) in
+      let inner =
+      wanted_clean s g a.wanted look u n behind final wanted seen.0.own (omega arith)
+      (shows_left s g final look (columns_in a.wanted) (used_sorts ks ++ ((once a).distinct ++ more)) seen.0.shown) under
+      (omega (arith, le, bound)) in
       let condition : FilterTree = where_of (with_member tie (with_member A (with_member B []))) in
       let all : List PredTree = opened tie ++ (opened A ++ (opened B ++ [])) in
       let is : conjuncts condition ≡ all = where_conjuncts tie A B in
       let ex : PredTree → Bool = is_exempt s g final all (from_of s g u n) in
       let kept : where_faults s g final ex condition ≡ [] =
-      three_free s g final ex tie A B (tied final seen.0 (opened A ++ (opened B ++ []))) (exempt_free s g final ex A (filter_exempt s g u n mid final all ready (omega arith) (omega (arith, le, bound)))) (clean_free s g final ex B inner) in
+      three_free s g final ex tie A B (tied final seen.0 (opened A ++ (opened B ++ [])))
+      (exempt_free s g final ex A (filter_exempt s g u n mid final all ready (omega arith) (omega (arith, le, bound))))
+      (clean_free s g final ex B inner) in
       let stand : stand_among all (filter_conjuncts s g u) (table_alias n) ≡ true = filter_stands s g u n mid (opened tie) (opened B ++ []) (omega arith) (omega (arith, le, bound)) in
       let keys : List OrderTree = orders ks s R look u n at in
       let K : OrderTrees = orders_of (orders (own_sorts (table s u).key) s R look u n (behind_sorts s g u n look es at)) in
@@ -115,8 +131,13 @@ module _ (s : Schema) (g : Grants) where
       let split : orders_of keys ≡ in_front front K = orders_split s g u n look es (table s u).key at in
       let run = rows_run s g u n look final (behind_sorts s g u n look es at) ready seen.0.own in
       let has : has_run s final u (table_alias n) (orders_of keys) ≡ true = ap (has_run s final u (table_alias n)) split ∙ stands s g final u (table_alias n ∷ []) K run (table_alias n) refl front in
-      let distinct = distinct_clean final (table s u).columns look (once a).distinct (shows_left s g final look (once a).distinct more (shows_right s g final look (used_sorts ks) ((once a).distinct ++ more) (shows_right s g final look (columns_in a.wanted) (used_sorts ks ++ ((once a).distinct ++ more)) seen.0.shown))) in
-      rows_clean s g scope final u n counts (distinct_columns (table s u).columns look (once a).distinct) outs (joins_of J') condition keys limit a.offset ready (joins_clean s g within (n + 1) m J' _ j) (joins_shapes s g within (n + 1) m J' _ j)
+      let distinct =
+      distinct_clean final (table s u).columns look (once a).distinct
+      (shows_left s g final look (once a).distinct more
+      (shows_right s g final look (used_sorts ks) ((once a).distinct ++ more)
+      (shows_right s g final look (columns_in a.wanted) (used_sorts ks ++ ((once a).distinct ++ more)) seen.0.shown))) in
+      rows_clean s g scope final u n counts (distinct_columns (table s u).columns look (once a).distinct) outs (joins_of J') condition keys
+      limit a.offset ready (joins_clean s g within (n + 1) m J' _ j) (joins_shapes s g within (n + 1) m J' _ j)
       distinct (shown final seen.0 seen.1.0 seen.1.1) (ap (λ l. stand_among l (filter_conjuncts s g u) (table_alias n)) is ∙ stand) (rw has refl)
       (subst (λ l. where_faults s g final (is_exempt s g final l (from_of s g u n)) condition ≡ []) (sym is) kept)
       (ap (orders_faults s g final 0) split ∙ covered s g final u (table_alias n ∷ []) K run 0 front (omega arith) (entries_clean s g u n look final es at seen.1.0))

@@ -53,13 +53,17 @@ module _ (s : Schema) (g : Grants) where
   -- with an object whose values have no faults
   pub one_clean : (scope : Shapes) (counts : Bool) (n : ℕ) (ps : PairTrees) (J : List JoinTree) (c : FilterTree) → joins_faults s g ((table_alias n, outputs []) ∷ scope) (joins_of J) ≡ []
       → pairs_faults s g (joined_shapes s g ((table_alias n, outputs []) ∷ scope) (joins_of J)) ps ≡ []
-      → where_faults s g (joined_shapes s g ((table_alias n, outputs []) ∷ scope) (joins_of J)) (is_exempt s g (joined_shapes s g ((table_alias n, outputs []) ∷ scope) (joins_of J)) (conjuncts c) (tree.one (table_alias n))) c ≡ []
+      → where_faults s g (joined_shapes s g ((table_alias n, outputs []) ∷ scope) (joins_of J))
+      (is_exempt s g (joined_shapes s g ((table_alias n, outputs []) ∷ scope) (joins_of J)) (conjuncts c) (tree.one (table_alias n))) c
+      ≡ []
       → select_faults s g scope counts (tree.rows [] (value_output (tree.object ps)) (tree.one (table_alias n)) (joins_of J) c [] None None) ≡ []
   one_clean scope counts n ps J c j p w = none _ _ (none _ _ p refl) (none _ _ j (none _ _ w refl))
 
   pub one_first : (scope : Shapes) (n : ℕ) (ps : PairTrees) (J : List JoinTree) (c : FilterTree) → joins_faults s g ((table_alias n, outputs []) ∷ scope) (joins_of J) ≡ []
       → pairs_faults s g (joined_shapes s g ((table_alias n, outputs []) ∷ scope) (joins_of J)) ps ≡ []
-      → where_faults s g (joined_shapes s g ((table_alias n, outputs []) ∷ scope) (joins_of J)) (is_exempt s g (joined_shapes s g ((table_alias n, outputs []) ∷ scope) (joins_of J)) (conjuncts c) (tree.one (table_alias n))) c ≡ []
+      → where_faults s g (joined_shapes s g ((table_alias n, outputs []) ∷ scope) (joins_of J))
+      (is_exempt s g (joined_shapes s g ((table_alias n, outputs []) ∷ scope) (joins_of J)) (conjuncts c) (tree.one (table_alias n))) c
+      ≡ []
       → First s g scope (tree.rows [] (value_output (tree.object ps)) (tree.one (table_alias n)) (joins_of J) c [] None None)
   one_first scope n ps J c j p w =
       let q : SelectTree = tree.rows [] (value_output (tree.object ps)) (tree.one (table_alias n)) (joins_of J) c [] None None in
@@ -72,13 +76,19 @@ module _ (s : Schema) (g : Grants) where
   -- ---- lists
 
   -- the columns that a list uses for its outputs
-  pub shows_more : (final : Shapes) (u n : ℕ) (a : ListArguments) (more : List ℕ) → Shows s g final (shown_look s (rights_of g) u (list_used s u a more) n) (list_used s u a more) → Shows s g final (shown_look s (rights_of g) u (list_used s u a more) n) more
+  pub shows_more : (final : Shapes) (u n : ℕ) (a : ListArguments) (more : List ℕ)
+      → Shows s g final (shown_look s (rights_of g) u (list_used s u a more) n) (list_used s u a more)
+      → Shows s g final (shown_look s (rights_of g) u (list_used s u a more) n) more
   shows_more final u n a more k =
       let look : Look = shown_look s (rights_of g) u (list_used s u a more) n in
-      shows_right s g final look (once a).distinct more (shows_right s g final look (used_sorts (list_sorts s u a)) ((once a).distinct ++ more) (shows_right s g final look (columns_in a.wanted) (used_sorts (list_sorts s u a) ++ ((once a).distinct ++ more)) k))
+      shows_right s g final look (once a).distinct more
+      (shows_right s g final look (used_sorts (list_sorts s u a)) ((once a).distinct ++ more)
+      (shows_right s g final look (columns_in a.wanted) (used_sorts (list_sorts s u a) ++ ((once a).distinct ++ more)) k))
 
   -- a list of rows of table u at the alias of number n
-  pub list_first : (scope : Shapes) (u n m : ℕ) (a : ListArguments) (more : List ℕ) (tie : PredTree) (values : List PairTree) (J : List JoinTree) (V : Shapes → Type 0) → Ready s g u → AllowedList s g u a more
+  pub list_first : (scope : Shapes) (u n m : ℕ) (a : ListArguments) (more : List ℕ) (tie : PredTree) (values : List PairTree)
+      (J : List JoinTree) (V : Shapes → Type 0)
+      → Ready s g u → AllowedList s g u a more
       → children_from s (rights_of g) u (list_used s u a more) a n ≤ m → m ≤ 2 ^ 64
       → ((final : Shapes) → Behind s g scope u n (list_used s u a more) final → IsTied s g final u n tie)
       → ((here : Shapes) → Behind s g scope u n (list_used s u a more) here → Joined s g here (children_from s (rights_of g) u (list_used s u a more) a n) m J V)
@@ -105,16 +115,20 @@ module _ (s : Schema) (g : Grants) where
       let inner : Shapes = (fold_alias n, outputs all) ∷ scope in
       let here : shape_at inner (fold_alias n) ≡ outputs all = rw (same_text (fold_alias n)) refl in
       let first : output_named all value_name ≡ made = rw (same_text value_name) refl in
-      let plain : is_plain g (origin_at s inner (fold_alias n) value_name) ≡ true = ap (λ sh. is_plain g (origin_in s sh (fold_alias n) value_name)) here ∙ ap (λ o. is_plain g (behind (fold_alias n) o)) first in
+      let plain : is_plain g (origin_at s inner (fold_alias n) value_name) ≡ true =
+      ap (λ sh. is_plain g (origin_in s sh (fold_alias n) value_name)) here ∙ ap (λ o. is_plain g (behind (fold_alias n) o)) first in
       let orders = orders_passed s g u n look final n all inner here ready seen.0.own es at seen.1.0 f.few (λ k. rw (value_is_no_key k) refl) in
       let fold : expr_faults s g inner value ≡ [] = none _ _ (column_clean s g inner (fold_alias n) value_name Plain plain) orders in
-      let outer : expr_faults s g ((fold_alias n, outputs (output_origins s (joined_shapes s g within (joins_of J')) outs)) ∷ scope) value ≡ [] = ap (λ f. expr_faults s g ((fold_alias n, outputs (output_origins s f outs)) ∷ scope) value) shapes ∙ fold in
+      let outer : expr_faults s g ((fold_alias n, outputs (output_origins s (joined_shapes s g within (joins_of J')) outs)) ∷ scope) value
+      ≡ [] =
+      ap (λ f. expr_faults s g ((fold_alias n, outputs (output_origins s f outs)) ∷ scope) value) shapes ∙ fold in
       record { clean = none _ _ outer rows; shows = refl }
 
   -- ---- aggregates
 
   -- outputs that are plain give plain cells under every name
-  outs_plain : (final : Shapes) (look : Look) (n i : ℕ) (cs : List ℕ) → Shows s g final look cs → (name : List ℕ) → is_plain g (output_named (output_origins s final (needed_columns look cs i)) name) ≡ true
+  outs_plain : (final : Shapes) (look : Look) (n i : ℕ) (cs : List ℕ) → Shows s g final look cs → (name : List ℕ)
+      → is_plain g (output_named (output_origins s final (needed_columns look cs i)) name) ≡ true
   outs_plain final look n i [] k name = refl
   outs_plain final look n i (c ∷ cs) k name =
       let later = outs_plain final look n (i + 1) cs (λ d used. k d (used_right d (c ∷ []) cs used)) name in
@@ -122,13 +136,16 @@ module _ (s : Schema) (g : Grants) where
       elim [ true ↦ k c (used_left c (c ∷ []) cs (used_one c)) | false ↦ later ] in
       go (bytes_eq (needed_name i) name)
 
-  needed_plain : (final : Shapes) (look : Look) (n : ℕ) (cs : List ℕ) → Shows s g final look cs → (name : List ℕ) → is_plain g (output_named (output_origins s final (needed_outputs look cs)) name) ≡ true
+  needed_plain : (final : Shapes) (look : Look) (n : ℕ) (cs : List ℕ) → Shows s g final look cs → (name : List ℕ)
+      → is_plain g (output_named (output_origins s final (needed_outputs look cs)) name) ≡ true
   needed_plain final look n [] k name = let go : (b : Bool) → is_plain g (cond b made made) ≡ true = elim [ true ↦ refl | false ↦ refl ] in go (bytes_eq unit_name name)
   needed_plain final look n (c ∷ cs) k name = outs_plain final look n 0 (c ∷ cs) k name
 
   columns_clean : (final : Shapes) (look : Look) (i : ℕ) (cs : List ℕ) → Shows s g final look cs → outs_faults s g final (needed_columns look cs i) ≡ []
   columns_clean final look i [] k = refl
-  columns_clean final look i (c ∷ cs) k = none _ _ (plain_out s g final (look c) (k c (used_left c (c ∷ []) cs (used_one c)))) (columns_clean final look (i + 1) cs (λ d used. k d (used_right d (c ∷ []) cs used)))
+  columns_clean final look i (c ∷ cs) k =
+      none _ _ (plain_out s g final (look c) (k c (used_left c (c ∷ []) cs (used_one c))))
+      (columns_clean final look (i + 1) cs (λ d used. k d (used_right d (c ∷ []) cs used)))
 
   needed_clean : (final : Shapes) (look : Look) (cs : List ℕ) → Shows s g final look cs → outs_faults s g final (needed_outputs look cs) ≡ []
   needed_clean final look [] k = refl
@@ -170,7 +187,8 @@ module _ (s : Schema) (g : Grants) where
     no_summaries [] h = refl
     no_summaries (f ∷ fs) h =
         let split : (a b : Bool) → (a || b) ≡ false → (a ≡ false) × (b ≡ false) = elim [ true ↦ λ b k. absurd cc | false ↦ λ b k. (refl, k) ] in
-        let go : (x : AggField) → (is_aggregate x || some_aggregate fs) ≡ false → expr_faults s g inner (summary_value columns n cs x) ++ pairs_faults s g inner (pairs_of (summary_pairs columns n cs fs)) ≡ [] =
+        let go : (x : AggField) → (is_aggregate x || some_aggregate fs) ≡ false
+        → expr_faults s g inner (summary_value columns n cs x) ++ pairs_faults s g inner (pairs_of (summary_pairs columns n cs fs)) ≡ [] =
         elim [
           | take.Count c distinct ↦ λ e. cc
           | take.Columns a ks ↦ λ e. (let parts = split (some_taken ks) (some_aggregate fs) e in none _ _ (no_takens a ks parts.0) (no_summaries fs parts.1))
@@ -179,7 +197,8 @@ module _ (s : Schema) (g : Grants) where
         go f.field h
 
   -- an aggregate over rows of table u at the alias of number n
-  pub folded_first : (scope : Shapes) (fs : List KeyedAggField) (u n : ℕ) (a : ListArguments) (tie : PredTree) → Ready s g u → AllowedList s g u a (needed fs []) → children_from s (rights_of g) u (summary_used s u a fs) a n ≤ 2 ^ 64
+  pub folded_first : (scope : Shapes) (fs : List KeyedAggField) (u n : ℕ) (a : ListArguments) (tie : PredTree) → Ready s g u
+      → AllowedList s g u a (needed fs []) → children_from s (rights_of g) u (summary_used s u a fs) a n ≤ 2 ^ 64
       → ((final : Shapes) → Behind s g scope u n (summary_used s u a fs) final → IsTied s g final u n tie) → First s g scope (folded_select fs s (rights_of g) u a n tie)
   folded_first scope fs u n a tie ready f bound tied =
       let R : Rights = rights_of g in
@@ -197,12 +216,16 @@ module _ (s : Schema) (g : Grants) where
       let seen = j.seen final (λ x v. refl) in
       let shapes : joined_shapes s g within (joins_of J') ≡ final = joins_shapes s g within (n + 1) kid J' _ j in
       let value : ExprTree = tree.object (pairs_of (summary_pairs (table s u).columns n more fs)) in
-      let rows = list_clean s g scope (shows_order value) u n kid a more tie a.limit outs [] V ready f.permits f.wanted f.sorted (omega arith) bound tied kids (λ fin b e v. needed_clean fin look more (shows_more fin u n a more b.shown)) in
+      let rows =
+      list_clean s g scope (shows_order value) u n kid a more tie a.limit outs [] V ready f.permits f.wanted f.sorted (omega arith)
+      bound tied kids (λ fin b e v. needed_clean fin look more (shows_more fin u n a more b.shown)) in
       let all : List (List ℕ × Origin) = output_origins s final outs in
       let inner : Shapes = (fold_alias n, outputs all) ∷ scope in
       let here : shape_at inner (fold_alias n) ≡ outputs all = rw (same_text (fold_alias n)) refl in
       let plain : (name : List ℕ) → is_plain g (origin_at s inner (fold_alias n) name) ≡ true =
-      λ name. ap (λ sh. is_plain g (origin_in s sh (fold_alias n) name)) here ∙ behind_plain s g (fold_alias n) (output_named all name) (needed_plain final look n more (shows_more final u n a more seen.0.shown) name) in
+      λ name. ap (λ sh. is_plain g (origin_in s sh (fold_alias n) name)) here
+      ∙ behind_plain s g (fold_alias n) (output_named all name)
+      (needed_plain final look n more (shows_more final u n a more seen.0.shown) name) in
       let outer : expr_faults s g ((fold_alias n, outputs (output_origins s (joined_shapes s g within (joins_of J')) outs)) ∷ scope) value ≡ [] =
       ap (λ f. expr_faults s g ((fold_alias n, outputs (output_origins s f outs)) ∷ scope) value) shapes ∙ summaries_clean inner n (table s u).columns more plain fs in
       record { clean = none _ _ outer rows; shows = refl }
@@ -210,4 +233,5 @@ module _ (s : Schema) (g : Grants) where
   -- one without an aggregate
   pub plain_first : (scope : Shapes) (fs : List KeyedAggField) (u n : ℕ) → some_aggregate fs ≡ false → First s g scope (plain_select fs s u n)
   plain_first scope fs u n e =
-      one_first scope n (pairs_of (summary_pairs (table s u).columns n (needed fs []) fs)) [] tree.no_filter refl (no_summaries ((table_alias n, outputs []) ∷ scope) n (table s u).columns (needed fs []) fs e) refl
+      one_first scope n (pairs_of (summary_pairs (table s u).columns n (needed fs []) fs)) [] tree.no_filter refl
+      (no_summaries ((table_alias n, outputs []) ∷ scope) n (table s u).columns (needed fs []) fs e) refl

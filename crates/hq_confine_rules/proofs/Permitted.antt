@@ -44,12 +44,17 @@ module _ (w : World) (e f : Scope) (alias : List ℕ) (same : f (table_alias 0) 
   all_hold all [] h k = refl
   all_hold all (o ∷ owns) h k =
       let parts = and_parts (list_any (is_written alias o) all) (stand_among all owns alias) h in
-      let here : is_so w f o ≡ true = found_holds (is_written alias o) (is_so w e) (is_so w f o) (λ x a b. ap is_true (truth_alike o x ((table_alias 0, alias) ∷ []) a w f e related) ∙ b) all parts.0 k in
+      let here : is_so w f o ≡ true =
+      found_holds (is_written alias o) (is_so w e) (is_so w f o)
+      (λ x a b. ap is_true (truth_alike o x ((table_alias 0, alias) ∷ []) a w f e related) ∙ b) all parts.0 k in
       rw here (all_hold all owns parts.1 k)
 
 -- where the WHERE of a scan of t is true and its conjuncts contain those of the filter, the filter is true of the scan's row
-pub only_permitted : (s : Schema) (g : Grants) (tables : List Table) (d : List (List Row)) → Sound s tables d → (t : ℕ) (alias : List ℕ) (c : FilterTree) → 1 + filter_numbers s (rights_of g) t ≤ 2 ^ 64 → stand_among (conjuncts c) (filter_conjuncts s g t) alias ≡ true
-    → (e : Scope) (row : Row) → Narrow s t row → e alias ≡ named_row (table s t).columns row → kept c (record { tables = tables; database = d }) e ≡ true → keeps (grant g t).filter s (all_of s d) t row ≡ true
+pub only_permitted : (s : Schema) (g : Grants) (tables : List Table) (d : List (List Row)) → Sound s tables d
+    → (t : ℕ) (alias : List ℕ) (c : FilterTree) → 1 + filter_numbers s (rights_of g) t ≤ 2 ^ 64
+    → stand_among (conjuncts c) (filter_conjuncts s g t) alias ≡ true
+    → (e : Scope) (row : Row) → Narrow s t row → e alias ≡ named_row (table s t).columns row
+    → kept c (record { tables = tables; database = d }) e ≡ true → keeps (grant g t).filter s (all_of s d) t row ≡ true
 only_permitted s g tables d sound t alias c bound stand e row narrow shows k =
     let w : World = record { tables = tables; database = d } in
     let f : Scope = with_alias nothing (table_alias 0) (named_row (table s t).columns row) in

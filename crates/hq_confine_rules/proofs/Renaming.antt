@@ -92,9 +92,16 @@ module _ (r : Renaming) where
   test_alike : (ty : Ty) (e f : ExprTree) (t : Test) (vs : List Operand) (negated : Bool) → is_alike_expr r e f ≡ true → is_alike r (test_of ty e t vs negated) (test_of ty f t vs negated) ≡ true
   test_alike ty e f t vs negated h =
       let here : is_alike r (tree.test e t (literals_for ty (arity t) vs)) (tree.test f t (literals_for ty (arity t) vs)) ≡ true = rw (h, test_same t) (literals_alike ty (arity t) vs) in
-      let turned : (b : Bool) → is_alike r (negation_if b (tree.test e t (literals_for ty (arity t) vs))) (negation_if b (tree.test f t (literals_for ty (arity t) vs))) ≡ true = elim [ true ↦ here | false ↦ here ] in
+      let turned : (b : Bool)
+      → is_alike r (negation_if b (tree.test e t (literals_for ty (arity t) vs)))
+      (negation_if b (tree.test f t (literals_for ty (arity t) vs)))
+      ≡ true =
+      elim [ true ↦ here | false ↦ here ] in
       let nothing : (b : Bool) → is_alike r (cond b tree.always tree.never) (cond b tree.always tree.never) ≡ true = elim [ true ↦ refl | false ↦ refl ] in
-      let go : (b : Bool) → is_alike r (cond b (cond negated tree.always tree.never) (negation_if negated (tree.test e t (literals_for ty (arity t) vs)))) (cond b (cond negated tree.always tree.never) (negation_if negated (tree.test f t (literals_for ty (arity t) vs)))) ≡ true =
+      let go : (b : Bool)
+      → is_alike r (cond b (cond negated tree.always tree.never) (negation_if negated (tree.test e t (literals_for ty (arity t) vs))))
+      (cond b (cond negated tree.always tree.never) (negation_if negated (tree.test f t (literals_for ty (arity t) vs))))
+      ≡ true =
       elim [ true ↦ nothing negated | false ↦ turned negated ] in
       go (is_of_nothing t vs)
 
@@ -146,36 +153,57 @@ module _ (r : Renaming) where
 link_alike : (r : Renaming) (columns remote : List Column) (p q n m : ℕ) → stands_for r (table_alias p) (table_alias q) ≡ true → stands_for r (table_alias n) (table_alias m) ≡ true → (xs : List Pair)
     → Zip (Alike r) (link_members columns remote p n xs) (link_members columns remote q m xs)
 link_alike r columns remote p q n m own far [] = tt
-link_alike r columns remote p q n m own far (x ∷ xs) =
-    (rw (column_alike r (table_alias n) (table_alias m) (name_of remote x.remote) (compared_form (type_in remote x.remote)) far, column_alike r (table_alias p) (table_alias q) (name_of columns x.own) (compared_form (type_in columns x.own)) own) refl, link_alike r columns remote p q n m own far xs)
+link_alike r columns remote p q n m own far (x ∷ xs) = (
+  rw (
+    column_alike r (table_alias n) (table_alias m) (name_of remote x.remote) (compared_form (type_in remote x.remote)) far,
+    column_alike r (table_alias p) (table_alias q) (name_of columns x.own) (compared_form (type_in columns x.own)) own,
+  )
+      refl,
+  link_alike r columns remote p q n m own far xs,
+)
 
 -- an inner alias stands for its own, and hides none of an outer number
 inner_stands : (r : Renaming) (n m : ℕ) → stands_for ((table_alias n, table_alias m) ∷ r) (table_alias n) (table_alias m) ≡ true
 inner_stands r n m = rw (same_text (table_alias n), same_text (table_alias m)) refl
 
-outer_stands : (r : Renaming) (p q n m : ℕ) → p < n → q < m → n < 2 ^ 64 → m < 2 ^ 64 → stands_for r (table_alias p) (table_alias q) ≡ true → stands_for ((table_alias n, table_alias m) ∷ r) (table_alias p) (table_alias q) ≡ true
+outer_stands : (r : Renaming) (p q n m : ℕ) → p < n → q < m → n < 2 ^ 64 → m < 2 ^ 64 → stands_for r (table_alias p) (table_alias q) ≡ true
+    → stands_for ((table_alias n, table_alias m) ∷ r) (table_alias p) (table_alias q) ≡ true
 outer_stands r p q n m lt lu b c h = rw (table_aliases_differ p n lt b, table_aliases_differ q m lu c, h) refl
 
 module _ (s : Schema) where
   mutual
-    pub own_alike : (b : BexpTree) (r : Renaming) (t p q n m : ℕ) → stands_for r (table_alias p) (table_alias q) ≡ true → p < n → q < m → n + own_numbers b s t ≤ 2 ^ 64 → m + own_numbers b s t ≤ 2 ^ 64
+    pub own_alike : (b : BexpTree) (r : Renaming) (t p q n m : ℕ) → stands_for r (table_alias p) (table_alias q) ≡ true → p < n → q < m
+        → n + own_numbers b s t ≤ 2 ^ 64 → m + own_numbers b s t ≤ 2 ^ 64
         → is_alike r (own_predicate b s t p n) (own_predicate b s t q m) ≡ true
     own_alike always r t p q n m h lt lu bn bm = refl
-    own_alike (and_of bs) r t p q n m h lt lu bn bm = and_alike r (predicates bs s (filter_mode s) (own_look (table s t).columns p) t p n) (predicates bs s (filter_mode s) (own_look (table s t).columns q) t q m) (owns_alike bs r t p q n m h lt lu bn bm)
-    own_alike (or_of bs) r t p q n m h lt lu bn bm = or_alike r (predicates bs s (filter_mode s) (own_look (table s t).columns p) t p n) (predicates bs s (filter_mode s) (own_look (table s t).columns q) t q m) (owns_alike bs r t p q n m h lt lu bn bm)
+    own_alike (and_of bs) r t p q n m h lt lu bn bm =
+        and_alike r (predicates bs s (filter_mode s) (own_look (table s t).columns p) t p n)
+        (predicates bs s (filter_mode s) (own_look (table s t).columns q) t q m) (owns_alike bs r t p q n m h lt lu bn bm)
+    own_alike (or_of bs) r t p q n m h lt lu bn bm =
+        or_alike r (predicates bs s (filter_mode s) (own_look (table s t).columns p) t p n)
+        (predicates bs s (filter_mode s) (own_look (table s t).columns q) t q m) (owns_alike bs r t p q n m h lt lu bn bm)
     own_alike (not_of b) r t p q n m h lt lu bn bm = own_alike b r t p q n m h lt lu bn bm
     own_alike (test c tested vs negated) r t p q n m h lt lu bn bm =
-        test_alike r (type_in (table s t).columns c) (tested_at (table s t).columns (own_look (table s t).columns p c) c tested) (tested_at (table s t).columns (own_look (table s t).columns q c) c tested) tested (operands_of vs) negated (column_alike r (table_alias p) (table_alias q) (own_look (table s t).columns p c).name (tested_form tested (type_in (table s t).columns c)) h)
+        test_alike r (type_in (table s t).columns c) (tested_at (table s t).columns (own_look (table s t).columns p c) c tested)
+        (tested_at (table s t).columns (own_look (table s t).columns q c) c tested) tested (operands_of vs) negated
+        (column_alike r (table_alias p) (table_alias q) (own_look (table s t).columns p c).name
+        (tested_form tested (type_in (table s t).columns c)) h)
     own_alike (through k b) r t p q n m h lt lu bn bm =
         let u : ℕ = (rel s t k).remote in
         let within : Renaming = (table_alias n, table_alias m) ∷ r in
         let far = inner_stands r n m in
         let own = outer_stands r p q n m lt lu (omega arith) (omega arith) h in
-        let linked = and_alike within (link_members (table s t).columns (table s u).columns p n (rel s t k).pairs) (link_members (table s t).columns (table s u).columns q m (rel s t k).pairs) (link_alike within (table s t).columns (table s u).columns p q n m own far (rel s t k).pairs) in
+        let linked =
+        and_alike within (link_members (table s t).columns (table s u).columns p n (rel s t k).pairs)
+        (link_members (table s t).columns (table s u).columns q m (rel s t k).pairs)
+        (link_alike within (table s t).columns (table s u).columns p q n m own far (rel s t k).pairs) in
         let P : PredTree = predicate b s (filter_mode s) (own_look (table s u).columns n) u n (n + 1 + 0 + 0) in
         let Q : PredTree = predicate b s (filter_mode s) (own_look (table s u).columns m) u m (m + 1 + 0 + 0) in
         let inner : is_alike within P Q ≡ true = own_alike b within u n m (n + 1 + 0 + 0) (m + 1 + 0 + 0) far (omega arith) (omega arith) (omega arith) (omega arith) in
-        let kept = where_alike within _ _ (member_alike within (link s t (rel s t k) p n) (link s t (rel s t k) q m) (with_member tree.always (with_member P [])) (with_member tree.always (with_member Q [])) linked (member_alike within P Q [] [] inner tt)) in
+        let kept =
+        where_alike within _ _
+        (member_alike within (link s t (rel s t k) p n) (link s t (rel s t k) q m) (with_member tree.always (with_member P []))
+        (with_member tree.always (with_member Q [])) linked (member_alike within P Q [] [] inner tt)) in
         rw (same_text (table s u).schema, same_text (table s u).name, same_text unit_name) kept
     own_alike (exists_in u b) r t p q n m h lt lu bn bm =
         let within : Renaming = (table_alias n, table_alias m) ∷ r in
@@ -191,7 +219,8 @@ module _ (s : Schema) where
         let right = column_alike r (table_alias p) (table_alias q) (name_of columns b) (compared_form (type_in columns b)) h in
         rw (left, op_same op, right) refl
 
-    owns_alike : (bs : BexpTrees) (r : Renaming) (t p q n m : ℕ) → stands_for r (table_alias p) (table_alias q) ≡ true → p < n → q < m → n + numbers_all bs s (filter_mode s) t ≤ 2 ^ 64 → m + numbers_all bs s (filter_mode s) t ≤ 2 ^ 64
+    owns_alike : (bs : BexpTrees) (r : Renaming) (t p q n m : ℕ) → stands_for r (table_alias p) (table_alias q) ≡ true → p < n → q < m
+        → n + numbers_all bs s (filter_mode s) t ≤ 2 ^ 64 → m + numbers_all bs s (filter_mode s) t ≤ 2 ^ 64
         → Zip (Alike r) (predicates bs s (filter_mode s) (own_look (table s t).columns p) t p n) (predicates bs s (filter_mode s) (own_look (table s t).columns q) t q m)
     owns_alike no_bexp r t p q n m h lt lu bn bm = tt
     owns_alike (bexp b bs) r t p q n m h lt lu bn bm =

@@ -99,11 +99,15 @@ module _ (s : Schema) (g : Grants) (scope : Shapes) where
     same_first u other c o e h = let f : of u other c ≡ of t path r.first = sym (of_is u other c o h) ∙ e in (ap table_of f, ap column_of f)
 
     -- a run that begins in front of K ends there
-    run_ends : (u : ℕ) (other : List (List ℕ)) (cs : List ℕ) (xs : List OrderTree) → (u ≡ t → list_any (λ d. d == r.first) cs ≡ false) → is_run s scope u other cs (in_front xs K) ≡ true → length cs ≤ length xs
+    run_ends : (u : ℕ) (other : List (List ℕ)) (cs : List ℕ) (xs : List OrderTree) → (u ≡ t → list_any (λ d. d == r.first) cs ≡ false)
+        → is_run s scope u other cs (in_front xs K) ≡ true → length cs ≤ length xs
     run_ends u other [] xs d h = omega arith
     run_ends u other (c ∷ cs) (x ∷ xs) d h =
         let parts = and_parts (is_key_sort s scope u other c x.value x.desc x.nulls_first) (is_run s scope u other cs (in_front xs K)) h in
-        let later : u ≡ t → list_any (λ d. d == r.first) cs ≡ false = λ e. (let go : (b : Bool) → (b || list_any (λ d. d == r.first) cs) ≡ false → list_any (λ d. d == r.first) cs ≡ false = elim [ true ↦ λ k. cc | false ↦ λ k. k ] in go (c == r.first) (d e)) in
+        let later : u ≡ t → list_any (λ d. d == r.first) cs ≡ false =
+        λ e.
+        (let go : (b : Bool) → (b || list_any (λ d. d == r.first) cs) ≡ false
+        → list_any (λ d. d == r.first) cs ≡ false = elim [ true ↦ λ k. cc | false ↦ λ k. k ] in go (c == r.first) (d e)) in
         let ih = run_ends u other cs xs later parts.1 in
         omega arith
     run_ends u other (c ∷ cs) [] d h =
@@ -112,7 +116,10 @@ module _ (s : Schema) (g : Grants) (scope : Shapes) where
           | tree.no_order ↦ λ a b. cc
           | tree.order e desc nulls_first os ↦ λ a b.
               let own = key_is t path r.first e desc nulls_first (and_parts (is_key_sort s scope t path r.first e desc nulls_first) (is_run s scope t path r.rest os) a).0 in
-              let same = same_first u other c (origin s scope e) own (found u other c e desc nulls_first (and_parts (is_key_sort s scope u other c e desc nulls_first) (is_run s scope u other cs os) b).0) in
+              let same =
+              same_first u other c (origin s scope e) own
+              (found u other c e desc nulls_first
+              (and_parts (is_key_sort s scope u other c e desc nulls_first) (is_run s scope u other cs os) b).0) in
               let hit : (c == r.first) ≡ true = ap (λ n. n == r.first) same.1 ∙ self_eq r.first in
               let no : (true || list_any (λ d. d == r.first) cs) ≡ false = ap (λ b. b || list_any (λ d. d == r.first) cs) (sym hit) ∙ d same.0 in
               cc
@@ -129,14 +136,19 @@ module _ (s : Schema) (g : Grants) (scope : Shapes) where
           | tree.order e desc nulls_first os ↦ λ a b.
               let own = key_is t path r.first e desc nulls_first (and_parts (is_key_sort s scope t path r.first e desc nulls_first) (is_run s scope t path r.rest os) a).0 in
               let from : run_from s scope (origin s scope e) (tree.order e desc nulls_first os) ≡ suc (length r.rest) =
-              ap (λ o. run_from s scope o (tree.order e desc nulls_first os)) own ∙ ap (λ cs. cond (is_run s scope t path cs (tree.order e desc nulls_first os)) (length cs) 0) r.key ∙ ap (λ b. cond b (suc (length r.rest)) 0) a in
+              ap (λ o. run_from s scope o (tree.order e desc nulls_first os)) own
+              ∙ ap (λ cs. cond (is_run s scope t path cs (tree.order e desc nulls_first os)) (length cs) 0) r.key
+              ∙ ap (λ b. cond b (suc (length r.rest)) 0) a in
               let sized : size os ≡ length r.rest = omega arith in
               rw (from, suc_not (length r.rest)) (skipped (length r.rest) os (omega arith))
         ] in
         go K r.run r.whole
     covered zero (x ∷ xs) h plain =
         let all : OrderTrees = tree.order x.value x.desc x.nulls_first (in_front xs K) in
-        let step : (n : ℕ) → n ≤ suc (length xs) → cond (n == 0) (expr_faults s g scope x.value ++ orders_faults s g scope 0 (in_front xs K)) (orders_faults s g scope (less_one n) (in_front xs K)) ≡ [] =
+        let step : (n : ℕ) → n ≤ suc (length xs)
+        → cond (n == 0) (expr_faults s g scope x.value ++ orders_faults s g scope 0 (in_front xs K))
+        (orders_faults s g scope (less_one n) (in_front xs K))
+        ≡ [] =
         elim [
           | zero ↦ λ le. none _ _ plain.0 (covered zero xs (omega arith) plain.1)
           | suc n ↦ λ le. rw (suc_not n) (covered n xs (omega arith) plain.1)
@@ -151,7 +163,10 @@ module _ (s : Schema) (g : Grants) (scope : Shapes) where
                 | d ∷ ds ↦ λ e. elim [
                   | true ↦ λ k.
                       let behind = (and_parts (is_key_sort s scope u other d x.value x.desc x.nulls_first) (is_run s scope u other ds (in_front xs K)) k).1 in
-                      let apart : u ≡ t → list_any (λ d. d == r.first) ds ≡ false = λ same. (let tails : d ∷ ds ≡ r.first ∷ r.rest = sym e ∙ ap (λ n. (table s n).key) same ∙ r.key in ap (λ l. list_any (λ d. d == r.first) (tail l)) tails ∙ r.differ) in
+                      let apart : u ≡ t → list_any (λ d. d == r.first) ds ≡ false =
+                      λ same.
+                      (let tails : d ∷ ds ≡ r.first ∷ r.rest = sym e ∙ ap (λ n. (table s n).key) same
+                      ∙ r.key in ap (λ l. list_any (λ d. d == r.first) (tail l)) tails ∙ r.differ) in
                       let le = run_ends u other ds xs apart behind in
                       omega arith
                   | false ↦ λ k. omega arith
@@ -169,7 +184,9 @@ module _ (s : Schema) (g : Grants) (scope : Shapes) where
         elim [
           | tree.no_order ↦ λ a. cc
           | tree.order e desc nulls_first os ↦ λ a.
-              let here : is_run s scope t (alias ∷ []) (table s t).key (tree.order e desc nulls_first os) ≡ true = ap (λ cs. is_run s scope t (alias ∷ []) cs (tree.order e desc nulls_first os)) r.key ∙ ap (λ q. is_run s scope t q (r.first ∷ r.rest) (tree.order e desc nulls_first os)) (sym p) ∙ a in
+              let here : is_run s scope t (alias ∷ []) (table s t).key (tree.order e desc nulls_first os) ≡ true =
+              ap (λ cs. is_run s scope t (alias ∷ []) cs (tree.order e desc nulls_first os)) r.key
+              ∙ ap (λ q. is_run s scope t q (r.first ∷ r.rest) (tree.order e desc nulls_first os)) (sym p) ∙ a in
               rw here refl
         ] in
         go K r.run

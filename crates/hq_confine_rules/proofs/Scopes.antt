@@ -76,7 +76,8 @@ module _ (s : Schema) (g : Grants) where
   pub joined_none : (scope : Shapes) (n m : ℕ) (V : Shapes → Type 0) → ((final : Shapes) → Grows m scope final → V final) → Joined scope n m [] V
   joined_none scope n m V v = record { after = scope; clean = λ js h. h; joined = λ js. refl; grows = λ a u. refl; seen = v }
 
-  pub joined_then : (scope : Shapes) (n mid m : ℕ) (J K : List JoinTree) (V W : Shapes → Type 0) → n ≤ mid → mid ≤ m → (first : Joined scope n mid J V) → Joined first.after mid m K W → Joined scope n m (J ++ K) (λ final. V final × W final)
+  pub joined_then : (scope : Shapes) (n mid m : ℕ) (J K : List JoinTree) (V W : Shapes → Type 0) → n ≤ mid → mid ≤ m
+      → (first : Joined scope n mid J V) → Joined first.after mid m K W → Joined scope n m (J ++ K) (λ final. V final × W final)
   joined_then scope n mid m J K V W a b first second = record {
     after = second.after;
     clean = λ js h. rw (append_assoc J K js) (first.clean (K ++ js) (second.clean js h));
@@ -101,7 +102,9 @@ module _ (s : Schema) (g : Grants) where
         grows = λ a u. rw ((u n (omega arith) bound).1.1) refl;
         seen = λ final grown.
             let at : shape_at final (join_alias n) ≡ sh = grown (join_alias n) (under_later (n + 1) m (join_alias n) (omega arith) (under_join n)) ∙ rw (same_text (join_alias n)) refl in
-            ap (λ x. is_plain g (origin_in s x (join_alias n) value_name)) at ∙ behind_plain (join_alias n) (output_named (cond (is_mask_join s g scope q) [] (outputs_of s g scope q)) value_name) first.shows;
+            ap (λ x. is_plain g (origin_in s x (join_alias n) value_name)) at
+            ∙ behind_plain (join_alias n) (output_named (cond (is_mask_join s g scope q) [] (outputs_of s g scope q)) value_name)
+            first.shows;
       }
 
   pub joined_as : (scope : Shapes) (n m m' : ℕ) (J : List JoinTree) (V W : Shapes → Type 0) → m ≤ m' → ((final : Shapes) → V final → W final) → Joined scope n m J V → Joined scope n m' J W

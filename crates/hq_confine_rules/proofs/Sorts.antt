@@ -34,11 +34,16 @@ module _ (s : Schema) (g : Grants) (t p : ℕ) (look : Look) where
   abbrev pub entry_orders : List SortKey → ℕ → List OrderTree
   entry_orders [] n = []
   entry_orders (k ∷ ks) n =
-      record { value = tree.column (place_at k n).alias (place_at k n).name (sort_form s t k); desc = k.desc; nulls_first = k.nulls_first } ∷ entry_orders ks (n + sort_numbers k.through s (rights_of g) t k.column)
+      record { value = tree.column (place_at k n).alias (place_at k n).name (sort_form s t k); desc = k.desc; nulls_first = k.nulls_first }
+      ∷ entry_orders ks (n + sort_numbers k.through s (rights_of g) t k.column)
 
-  pub orders_split : (es : List SortKey) (cs : List ℕ) (n : ℕ) → orders_of (orders (shown_sorts es (own_sorts cs)) s (rights_of g) look t p n) ≡ in_front (entry_orders es n) (orders_of (orders (own_sorts cs) s (rights_of g) look t p (behind_sorts es n)))
+  pub orders_split : (es : List SortKey) (cs : List ℕ) (n : ℕ)
+      → orders_of (orders (shown_sorts es (own_sorts cs)) s (rights_of g) look t p n)
+      ≡ in_front (entry_orders es n) (orders_of (orders (own_sorts cs) s (rights_of g) look t p (behind_sorts es n)))
   orders_split [] cs n = refl
-  orders_split (k ∷ ks) cs n = ap (tree.order (tree.column (place_at k n).alias (place_at k n).name (sort_form s t k)) k.desc k.nulls_first) (orders_split ks cs (n + sort_numbers k.through s (rights_of g) t k.column))
+  orders_split (k ∷ ks) cs n =
+      ap (tree.order (tree.column (place_at k n).alias (place_at k n).name (sort_form s t k)) k.desc k.nulls_first)
+      (orders_split ks cs (n + sort_numbers k.through s (rights_of g) t k.column))
 
   -- where each of them stands it is plain
   abbrev pub EntriesPlain : Shapes → List SortKey → ℕ → Type 0
@@ -47,7 +52,10 @@ module _ (s : Schema) (g : Grants) (t p : ℕ) (look : Look) where
 
   pub entries_clean : (final : Shapes) (es : List SortKey) (n : ℕ) → EntriesPlain final es n → Each (λ x. expr_faults s g final x.value ≡ []) (entry_orders es n)
   entries_clean final [] n h = tt
-  entries_clean final (k ∷ ks) n h = (column_clean s g final (place_at k n).alias (place_at k n).name (sort_form s t k) h.0, entries_clean final ks (n + sort_numbers k.through s (rights_of g) t k.column) h.1)
+  entries_clean final (k ∷ ks) n h = (
+    column_clean s g final (place_at k n).alias (place_at k n).name (sort_form s t k) h.0,
+    entries_clean final ks (n + sort_numbers k.through s (rights_of g) t k.column) h.1,
+  )
 
   -- ---- joins
 
@@ -55,10 +63,14 @@ module _ (s : Schema) (g : Grants) (t p : ℕ) (look : Look) where
   own_joined [] scope n = joined_none s g scope n (n + 0) (λ final. Unit {0}) (λ final grown. tt)
   own_joined (c ∷ cs) scope n =
       let rest = own_joined cs scope (n + 0) in
-      joined_as s g scope n ((n + 0) + sorts_numbers (own_sorts cs) s (rights_of g) t) (n + sorts_numbers (own_sorts (c ∷ cs)) s (rights_of g) t) (sorts_joins (own_sorts cs) s (rights_of g) t p (n + 0)) (λ final. Unit {0}) (λ final. Unit {0}) (omega arith) (λ final h. h)
+      joined_as s g scope n ((n + 0) + sorts_numbers (own_sorts cs) s (rights_of g) t)
+      (n + sorts_numbers (own_sorts (c ∷ cs)) s (rights_of g) t) (sorts_joins (own_sorts cs) s (rights_of g) t p (n + 0))
+      (λ final. Unit {0}) (λ final. Unit {0}) (omega arith) (λ final h. h)
       (sooner s g scope n (n + 0) ((n + 0) + sorts_numbers (own_sorts cs) s (rights_of g) t) (sorts_joins (own_sorts cs) s (rights_of g) t p (n + 0)) (λ final. Unit {0}) (omega arith) rest)
 
-  pub sorts_joined : (es : List SortKey) (cs : List ℕ) (scope : Shapes) (n : ℕ) → Each (λ k. AllowedSort s g t (record { own = false; key = k })) es → Scans scope p t → p < n → n + sorts_numbers (shown_sorts es (own_sorts cs)) s (rights_of g) t ≤ 2 ^ 64
+  pub sorts_joined : (es : List SortKey) (cs : List ℕ) (scope : Shapes) (n : ℕ)
+      → Each (λ k. AllowedSort s g t (record { own = false; key = k })) es → Scans scope p t → p < n
+      → n + sorts_numbers (shown_sorts es (own_sorts cs)) s (rights_of g) t ≤ 2 ^ 64
       → ((final : Shapes) → Grows n scope final → Shows s g final look (used_sorts (shown_sorts es (own_sorts cs))))
       → Joined s g scope n (n + sorts_numbers (shown_sorts es (own_sorts cs)) s (rights_of g) t) (sorts_joins (shown_sorts es (own_sorts cs)) s (rights_of g) t p n) (λ final. EntriesPlain final es n)
   sorts_joined [] cs scope n f own lt bound shows = own_joined cs scope n
@@ -68,18 +80,25 @@ module _ (s : Schema) (g : Grants) (t p : ℕ) (look : Look) where
       let mid : ℕ = n + here in
       let rest : List Sort = shown_sorts ks (own_sorts cs) in
       let top : ℕ = n + (here + sorts_numbers rest s R t) in
-      let first = chain_clean s g k.through scope t p n k.column look f.0 own lt (omega arith) (λ final grown used. shows_left s g final look (last_used k.through k.column) (used_sorts rest) (shows final grown) k.column used) in
+      let first =
+      chain_clean s g k.through scope t p n k.column look f.0 own lt (omega arith)
+      (λ final grown used. shows_left s g final look (last_used k.through k.column) (used_sorts rest) (shows final grown) k.column
+      used) in
       let next = sorts_joined ks cs first.after mid f.1 (scans_behind scope first.after p n t lt first.grows own) (omega arith) (omega arith)
       (λ final grown. shows_right s g final look (last_used k.through k.column) (used_sorts rest) (shows final (λ a u. grown a (under_later n mid a (omega arith) u) ∙ first.grows a u))) in
-      let wide = joined_as s g first.after mid (mid + sorts_numbers rest s R t) top (sorts_joins rest s R t p mid) (λ final. EntriesPlain final ks mid) (λ final. EntriesPlain final ks mid) (omega arith) (λ final h. h) next in
-      joined_then s g scope n mid top (sort_joins k.through s R t p n k.column) (sorts_joins rest s R t p mid) (λ final. PlainAt s g final (place_at k n)) (λ final. EntriesPlain final ks mid) (omega arith) (omega arith) first wide
+      let wide =
+      joined_as s g first.after mid (mid + sorts_numbers rest s R t) top (sorts_joins rest s R t p mid)
+      (λ final. EntriesPlain final ks mid) (λ final. EntriesPlain final ks mid) (omega arith) (λ final h. h) next in
+      joined_then s g scope n mid top (sort_joins k.through s R t p n k.column) (sorts_joins rest s R t p mid)
+      (λ final. PlainAt s g final (place_at k n)) (λ final. EntriesPlain final ks mid) (omega arith) (omega arith) first wide
 
   -- ---- the run of the key
 
   self_eq : (n : ℕ) → (n == n) ≡ true
   self_eq n = let e = eq-eqb n n refl in rw e refl
 
-  own_run : (final : Shapes) → Ready s g t → Scans final p t → (cs : List ℕ) (n : ℕ) → Each (Has s t) cs → is_run s final t (table_alias p ∷ []) cs (orders_of (orders (own_sorts cs) s (rights_of g) look t p n)) ≡ true
+  own_run : (final : Shapes) → Ready s g t → Scans final p t → (cs : List ℕ) (n : ℕ) → Each (Has s t) cs
+      → is_run s final t (table_alias p ∷ []) cs (orders_of (orders (own_sorts cs) s (rights_of g) look t p n)) ≡ true
   own_run final ready k [] n h = refl
   own_run final ready k (c ∷ cs) n h =
       let own = own_origin s g final p t c ready h.0 k in

@@ -46,12 +46,16 @@ module _ (s : Schema) (g : Grants) where
   scan_here : (u n : ℕ) (scope : Shapes) → Ready s g u → Scans (with_scan u n scope) n u
   scan_here u n scope ready = rw (same_text (table_alias n)) (ap scan ready.place)
 
-  scan_clean : (final : Shapes) (u n : ℕ) (all : List PredTree) (keys : List OrderTree) (unordered : Bool) → Ready s g u → stand_among all (filter_conjuncts s g u) (table_alias n) ≡ true → (has_run s final u (table_alias n) (orders_of keys) || unordered) ≡ true
+  scan_clean : (final : Shapes) (u n : ℕ) (all : List PredTree) (keys : List OrderTree) (unordered : Bool) → Ready s g u
+      → stand_among all (filter_conjuncts s g u) (table_alias n) ≡ true
+      → (has_run s final u (table_alias n) (orders_of keys) || unordered) ≡ true
       → scan_faults s g final (table_place s (table s u).schema (table s u).name) (table_alias n) all keys unordered ≡ []
   scan_clean final u n all keys unordered ready stand ordered = ap (λ t. scan_faults s g final t (table_alias n) all keys unordered) ready.place ∙ rw (ready.granted, stand, ordered) refl
 
   -- rows over a table whose parts have none
-  pub rows_clean : (scope final : Shapes) (u n : ℕ) (counts : Bool) (distinct : List ExprTree) (outs : List OutTree) (js : JoinTrees) (condition : FilterTree) (keys : List OrderTree) (limit offset : Option ℕ) → Ready s g u
+  pub rows_clean : (scope final : Shapes) (u n : ℕ) (counts : Bool) (distinct : List ExprTree) (outs : List OutTree) (js : JoinTrees)
+      (condition : FilterTree) (keys : List OrderTree) (limit offset : Option ℕ)
+      → Ready s g u
       → joins_faults s g (with_scan u n scope) js ≡ [] → joined_shapes s g (with_scan u n scope) js ≡ final → exprs_faults s g final distinct ≡ [] → outs_faults s g final outs ≡ []
       → stand_among (conjuncts condition) (filter_conjuncts s g u) (table_alias n) ≡ true → (has_run s final u (table_alias n) (orders_of keys) || is_unordered counts distinct limit offset) ≡ true
       → where_faults s g final (is_exempt s g final (conjuncts condition) (from_of u n)) condition ≡ [] → orders_faults s g final 0 (orders_of keys) ≡ []
@@ -67,14 +71,18 @@ module _ (s : Schema) (g : Grants) where
   -- ---- conditions
 
   mutual
-    pub wanted_clean : (b : BexpTree) (look : Look) (t p n : ℕ) (scope : Shapes) → Allowed b s g t → Scans scope p t → p < n → Shows s g scope look (columns_in b) → LooksUnder n look → n + numbers b s (where_mode s (rights_of g)) t ≤ 2 ^ 64
+    pub wanted_clean : (b : BexpTree) (look : Look) (t p n : ℕ) (scope : Shapes) → Allowed b s g t → Scans scope p t → p < n
+        → Shows s g scope look (columns_in b) → LooksUnder n look → n + numbers b s (where_mode s (rights_of g)) t ≤ 2 ^ 64
         → IsClean s g scope (predicate b s (where_mode s (rights_of g)) look t p n)
     wanted_clean always look t p n scope f own lt k u bound = refl
     wanted_clean (and_of bs) look t p n scope f own lt k u bound = and_clean s g scope (predicates bs s (where_mode s (rights_of g)) look t p n) (wanteds_clean bs look t p n scope f own lt k u bound)
     wanted_clean (or_of bs) look t p n scope f own lt k u bound = or_clean s g scope (predicates bs s (where_mode s (rights_of g)) look t p n) (wanteds_clean bs look t p n scope f own lt k u bound)
     wanted_clean (not_of b) look t p n scope f own lt k u bound = wanted_clean b look t p n scope f own lt k u bound
     wanted_clean (test c tested vs negated) look t p n scope f own lt k u bound =
-        test_clean s g scope (type_in (table s t).columns c) (tested_at (table s t).columns (look c) c tested) tested (operands_of vs) negated (λ some. column_clean s g scope (look c).alias (look c).name (tested_form tested (type_in (table s t).columns c)) (k c (used_else c (is_of_nothing tested (operands_of vs)) some)))
+        test_clean s g scope (type_in (table s t).columns c) (tested_at (table s t).columns (look c) c tested) tested (operands_of vs)
+        negated
+        (λ some. column_clean s g scope (look c).alias (look c).name (tested_form tested (type_in (table s t).columns c))
+        (k c (used_else c (is_of_nothing tested (operands_of vs)) some)))
     wanted_clean (through r b) look t p n scope f own lt k u bound =
         let R : Rights = rights_of g in
         let far : ℕ = (rel s t r).remote in
@@ -85,14 +93,19 @@ module _ (s : Schema) (g : Grants) where
         let j = shown_clean s g far n cs within ready f.1 near (omega arith) in
         let final : Shapes = j.after in
         let here : Scans final n far = scans_behind within final n (n + 1) far (omega arith) j.grows near in
-        let above : Scans final p t = scans_behind within final p (n + 1) t (omega arith) j.grows (scans_behind scope within p n t lt (grows_one n (scan (table_place s (table s far).schema (table s far).name)) scope (omega arith)) own) in
+        let above : Scans final p t =
+        scans_behind within final p (n + 1) t (omega arith) j.grows
+        (scans_behind scope within p n t lt
+        (grows_one n (scan (table_place s (table s far).schema (table s far).name)) scope (omega arith)) own) in
         let from : ℕ = n + 1 + extra s R far cs in
         let behind : ℕ = n + 1 + extra s R far cs + filter_numbers s R far in
         let L : PredTree = link s t (rel s t r) p n in
         let A : PredTree = filter_predicate s R far n from in
         let B : PredTree = predicate b s (where_mode s R) (shown_look s R far cs n) far n behind in
         let shown : Shows s g final (shown_look s R far cs n) cs = j.seen final (λ a v. refl) in
-        let inner = wanted_clean b (shown_look s R far cs n) far n behind final f.2 here (omega arith) shown (looks_under_later from behind (shown_look s R far cs n) (omega arith) (shown_under s g far n cs (omega arith))) (omega arith) in
+        let inner =
+        wanted_clean b (shown_look s R far cs n) far n behind final f.2 here (omega arith) shown
+        (looks_under_later from behind (shown_look s R far cs n) (omega arith) (shown_under s g far n cs (omega arith))) (omega arith) in
         let all : List PredTree = opened L ++ (opened A ++ (opened B ++ [])) in
         let is : conjuncts (where_of (with_member L (with_member A (with_member B [])))) ≡ all = where_conjuncts L A B in
         let ex : PredTree → Bool = is_exempt s g final all (from_of far n) in
@@ -100,7 +113,8 @@ module _ (s : Schema) (g : Grants) where
         three_free s g final ex L A B (exempt_free s g final ex L (link_exempt s g t r p n final (opened A ++ (opened B ++ [])) ready lt (omega arith) above f.0.within))
         (exempt_free s g final ex A (filter_exempt s g far n from final all ready (omega arith) (omega arith))) (clean_free s g final ex B inner) in
         let stand : stand_among all (filter_conjuncts s g far) (table_alias n) ≡ true = filter_stands s g far n from (opened L) (opened B ++ []) (omega arith) (omega arith) in
-        rows_clean scope final far n false [] (record { value = tree.bool true; name = unit_name } ∷ []) (joins_of (masks s R far cs n)) (where_of (with_member L (with_member A (with_member B [])))) [] None None ready
+        rows_clean scope final far n false [] (record { value = tree.bool true; name = unit_name } ∷ []) (joins_of (masks s R far cs n))
+        (where_of (with_member L (with_member A (with_member B [])))) [] None None ready
         (joins_clean s g within (n + 1) from (masks s R far cs n) _ j) (joins_shapes s g within (n + 1) from (masks s R far cs n) _ j) refl refl
         (ap (λ l. stand_among l (filter_conjuncts s g far) (table_alias n)) is ∙ stand) refl
         (subst (λ l. where_faults s g final (is_exempt s g final l (from_of far n)) (where_of (with_member L (with_member A (with_member B [])))) ≡ []) (sym is) kept) refl
@@ -118,7 +132,9 @@ module _ (s : Schema) (g : Grants) where
         let A : PredTree = filter_predicate s R u n from in
         let B : PredTree = predicate b s (where_mode s R) (shown_look s R u cs n) u n behind in
         let shown : Shows s g final (shown_look s R u cs n) cs = j.seen final (λ a w. refl) in
-        let inner = wanted_clean b (shown_look s R u cs n) u n behind final f.2 here (omega arith) shown (looks_under_later from behind (shown_look s R u cs n) (omega arith) (shown_under s g u n cs (omega arith))) (omega arith) in
+        let inner =
+        wanted_clean b (shown_look s R u cs n) u n behind final f.2 here (omega arith) shown
+        (looks_under_later from behind (shown_look s R u cs n) (omega arith) (shown_under s g u n cs (omega arith))) (omega arith) in
         let all : List PredTree = opened A ++ (opened B ++ []) in
         let is : conjuncts (where_of (with_member A (with_member B []))) ≡ all = where_pair A B in
         let ex : PredTree → Bool = is_exempt s g final all (from_of u n) in
@@ -133,7 +149,8 @@ module _ (s : Schema) (g : Grants) where
         none _ _ (column_clean s g scope (look l).alias (look l).name (compared_form (type_in (table s t).columns l)) (k l (used_left l (l ∷ []) (r ∷ []) (used_one l))))
         (none _ _ (column_clean s g scope (look r).alias (look r).name (compared_form (type_in (table s t).columns r)) (k r (used_right r (l ∷ []) (r ∷ []) (used_one r)))) refl)
 
-    wanteds_clean : (bs : BexpTrees) (look : Look) (t p n : ℕ) (scope : Shapes) → AllAllowed bs s g t → Scans scope p t → p < n → Shows s g scope look (columns_in_all bs) → LooksUnder n look → n + numbers_all bs s (where_mode s (rights_of g)) t ≤ 2 ^ 64
+    wanteds_clean : (bs : BexpTrees) (look : Look) (t p n : ℕ) (scope : Shapes) → AllAllowed bs s g t → Scans scope p t → p < n
+        → Shows s g scope look (columns_in_all bs) → LooksUnder n look → n + numbers_all bs s (where_mode s (rights_of g)) t ≤ 2 ^ 64
         → Each (IsClean s g scope) (predicates bs s (where_mode s (rights_of g)) look t p n)
     wanteds_clean no_bexp look t p n scope f own lt k u bound = tt
     wanteds_clean (bexp b bs) look t p n scope f own lt k u bound =
@@ -145,7 +162,8 @@ module _ (s : Schema) (g : Grants) where
   -- ---- a first row
 
   -- the columns of a key at their scan are a run
-  keys_run : (final : Shapes) (u n : ℕ) → Ready s g u → Scans final n u → (cs : List ℕ) → Each (Has s u) cs → is_run s final u (table_alias n ∷ []) cs (orders_of (key_orders (table s u).columns n cs)) ≡ true
+  keys_run : (final : Shapes) (u n : ℕ) → Ready s g u → Scans final n u → (cs : List ℕ) → Each (Has s u) cs
+      → is_run s final u (table_alias n ∷ []) cs (orders_of (key_orders (table s u).columns n cs)) ≡ true
   keys_run final u n ready k [] h = refl
   keys_run final u n ready k (c ∷ cs) h =
       let own = own_origin s g final n u c ready h.0 k in
@@ -184,14 +202,18 @@ module _ (s : Schema) (g : Grants) where
       let mid : ℕ = n + 1 + extra s (rights_of g) u cs in
       let near : Scans within n u = scan_here u n scope ready in
       let first = shown_clean s g u n cs within ready permits near (omega arith) in
-      let around : (final : Shapes) → Grows (n + 1) within final → Grows n scope final = λ final grown a v. grown a (under_later n (n + 1) a (omega arith) v) ∙ grows_one n (scan (table_place s (table s u).schema (table s u).name)) scope (omega arith) a v in
+      let around : (final : Shapes) → Grows (n + 1) within final → Grows n scope final =
+      λ final grown a v. grown a (under_later n (n + 1) a (omega arith) v)
+      ∙ grows_one n (scan (table_place s (table s u).schema (table s u).name)) scope (omega arith) a v in
       let behind : Behind scope u n cs first.after = record {
         own = scans_behind within first.after n (n + 1) u (omega arith) first.grows near;
         shown = first.seen first.after (λ a v. refl);
         grows = around first.after first.grows;
       } in
       let rest = kids first.after behind in
-      let both = joined_then s g within (n + 1) mid m (masks s (rights_of g) u cs n) J (λ final. Shows s g final (shown_look s (rights_of g) u cs n) cs) V (omega arith) (omega (arith, le)) first rest in
+      let both =
+      joined_then s g within (n + 1) mid m (masks s (rights_of g) u cs n) J
+      (λ final. Shows s g final (shown_look s (rights_of g) u cs n) cs) V (omega arith) (omega (arith, le)) first rest in
       record {
         after = both.after;
         clean = both.clean;
@@ -216,7 +238,8 @@ module _ (s : Schema) (g : Grants) where
   IsTied final u n tie = (ys : List PredTree) → IsFree s g final (is_exempt s g final (opened tie ++ ys) (from_of u n)) tie
 
   -- the first row of a table, its tie, its value and its joins given
-  pub first_clean : (scope : Shapes) (u n m : ℕ) (cs : List ℕ) (tie : PredTree) (e : ExprTree) (J : List JoinTree) → Ready s g u → Permits s g u cs → behind_filter s (rights_of g) u cs n ≤ m → m ≤ 2 ^ 64
+  pub first_clean : (scope : Shapes) (u n m : ℕ) (cs : List ℕ) (tie : PredTree) (e : ExprTree) (J : List JoinTree) → Ready s g u
+      → Permits s g u cs → behind_filter s (rights_of g) u cs n ≤ m → m ≤ 2 ^ 64
       → ((final : Shapes) → Behind scope u n cs final → IsTied final u n tie)
       → ((here : Shapes) → Behind scope u n cs here → Joined s g here (behind_filter s (rights_of g) u cs n) m J (λ final. (out_faults s g final e ≡ []) × (is_plain g (origin s final e) ≡ true)))
       → First s g scope (first_select s u n tie (filter_predicate s (rights_of g) u n (filter_from s (rights_of g) u cs n)) e (masks s (rights_of g) u cs n ++ J))
@@ -227,7 +250,8 @@ module _ (s : Schema) (g : Grants) where
       let from : ℕ = filter_from s R u cs n in
       let A : PredTree = filter_predicate s R u n from in
       let J' : List JoinTree = masks s R u cs n ++ J in
-      let later : (here : Shapes) → Behind scope u n cs here → Joined s g here (n + 1 + extra s R u cs) m J V = λ here behind. sooner s g here (n + 1 + extra s R u cs) (behind_filter s R u cs n) m J V (omega arith) (kids here behind) in
+      let later : (here : Shapes) → Behind scope u n cs here → Joined s g here (n + 1 + extra s R u cs) m J V =
+      λ here behind. sooner s g here (n + 1 + extra s R u cs) (behind_filter s R u cs n) m J V (omega arith) (kids here behind) in
       let j = alias_joins scope u n m cs J V ready permits (omega (arith, le)) bound later in
       let final : Shapes = j.after in
       let seen = j.seen final (λ a v. refl) in
@@ -238,7 +262,9 @@ module _ (s : Schema) (g : Grants) where
       let all : List PredTree = opened tie ++ (opened A ++ []) in
       let is : conjuncts condition ≡ all = where_pair tie A in
       let ex : PredTree → Bool = is_exempt s g final all (from_of u n) in
-      let kept : where_faults s g final ex condition ≡ [] = two_free s g final ex tie A (tied final seen.0 (opened A ++ [])) (exempt_free s g final ex A (filter_exempt s g u n from final all ready (omega arith) (omega (arith, le)))) in
+      let kept : where_faults s g final ex condition ≡ [] =
+      two_free s g final ex tie A (tied final seen.0 (opened A ++ []))
+      (exempt_free s g final ex A (filter_exempt s g u n from final all ready (omega arith) (omega (arith, le)))) in
       let stand : stand_among all (filter_conjuncts s g u) (table_alias n) ≡ true = filter_stands s g u n from (opened tie) [] (omega arith) (omega (arith, le)) in
       let shapes : joined_shapes s g within (joins_of J') ≡ final = joins_shapes s g within (n + 1) m J' _ j in
       let select : SelectTree = first_select s u n tie A e J' in

@@ -33,7 +33,10 @@ schema =
     record {
       schema = codes "public";
       name = codes "author";
-      columns = record { name = codes "id"; ty = Integer; of = []; nullable = false } ∷ record { name = codes "name"; ty = Text; of = []; nullable = false } ∷ record { name = codes "email"; ty = Text; of = []; nullable = true } ∷ [];
+      columns =
+          record { name = codes "id"; ty = Integer; of = []; nullable = false }
+          ∷ record { name = codes "name"; ty = Text; of = []; nullable = false }
+          ∷ record { name = codes "email"; ty = Text; of = []; nullable = true } ∷ [];
       key = 0 ∷ [];
       rels = record { name = codes "articles"; remote = 1; pairs = record { own = 0; remote = 1 } ∷ []; many = true } ∷ [];
     }
@@ -41,7 +44,9 @@ schema =
       schema = codes "public";
       name = codes "article";
       columns =
-          record { name = codes "id"; ty = Integer; of = []; nullable = false } ∷ record { name = codes "author_id"; ty = Integer; of = []; nullable = true } ∷ record { name = codes "title"; ty = Text; of = []; nullable = false }
+          record { name = codes "id"; ty = Integer; of = []; nullable = false }
+          ∷ record { name = codes "author_id"; ty = Integer; of = []; nullable = true }
+          ∷ record { name = codes "title"; ty = Text; of = []; nullable = false }
           ∷ record { name = codes "published"; ty = Boolean; of = []; nullable = false } ∷ record { name = codes "rating"; ty = Bigint; of = []; nullable = true } ∷ [];
       key = 2 ∷ 0 ∷ [];
       rels = record { name = codes "author"; remote = 0; pairs = record { own = 1; remote = 0 } ∷ []; many = false } ∷ [];
@@ -68,7 +73,13 @@ user = Some author ∷ Some article ∷ []
 abbrev guest : Grants
 guest =
     Some (record author { filter = through 0 is_published; masks = record { column = 1; shown = test 0 (Compare Eq) (operands.List (Const (val.Int (pos 1)) ∷ [])) false } ∷ [] })
-    ∷ Some (record article { filter = and_of (bexp is_published (bexp (through 0 (test 1 (Compare Eq) (operands.List (Const (val.Text (codes "Ann")) ∷ [])) false)) no_bexp)); masks = record { column = 2; shown = and_of (bexp is_own (bexp is_published no_bexp)) } ∷ record { column = 4; shown = through 0 always } ∷ [] })
+    ∷ Some
+    (record article {
+      filter = and_of
+          (bexp is_published (bexp (through 0 (test 1 (Compare Eq) (operands.List (Const (val.Text (codes "Ann")) ∷ [])) false)) no_bexp));
+      masks = record { column = 2; shown = and_of (bexp is_own (bexp is_published no_bexp)) }
+          ∷ record { column = 4; shown = through 0 always } ∷ [];
+    })
     ∷ []
 
 abbrev admin : Grants
@@ -101,7 +112,10 @@ abbrev summed : FieldTrees
 summed =
     field (codes "s")
     (aggregate (from_table 1) (record plain { sorts = by [] 4 ∷ [] })
-    (part (codes "a") (summary (record { key = codes "count"; field = take.Count (Some 4) true } ∷ record { key = codes "max"; field = take.Columns Max (record { key = codes "title"; field = of.Column 2 } ∷ []) } ∷ []))
+    (part (codes "a")
+    (summary
+    (record { key = codes "count"; field = take.Count (Some 4) true }
+    ∷ record { key = codes "max"; field = take.Columns Max (record { key = codes "title"; field = of.Column 2 } ∷ []) } ∷ []))
     (part (codes "n") (nodes of_titles) no_part)))
     (field (codes "k") (by_key 0 (val.Int (pos 1) ∷ []) (field (codes "name") (column 1) no_field)) no_field)
 
@@ -146,7 +160,8 @@ sorted e = record { value = e; desc = false; nulls_first = false }
 abbrev authors : (value : ExprTree) → JoinTrees → FilterTree → List OrderTree → (limit : Option ℕ) → SelectTree
 authors value joins condition keys limit =
     tree.fold (record { value = tree.aggregate (tree.json_agg (tree.column (codes "s") (codes "v") Plain) (tree.order (tree.bool true) false false tree.no_order)); name = codes "v" })
-    (tree.rows [] (record { value = tree.object (tree.pair (codes "x") value tree.no_pair); name = codes "v" } ∷ []) (tree.table (codes "public") (codes "author") (codes "a")) joins condition keys limit None)
+    (tree.rows [] (record { value = tree.object (tree.pair (codes "x") value tree.no_pair); name = codes "v" } ∷ [])
+    (tree.table (codes "public") (codes "author") (codes "a")) joins condition keys limit None)
     (codes "s")
 
 abbrev by_id : List OrderTree
@@ -160,7 +175,11 @@ hidden_breaks_3 : worst (faults schema user (authors (at_a (codes "email")) tree
 unfolding table_alias fold_alias join_alias value_name key_name needed_name unit_name digits
 hidden_breaks_3 = refl
 
-compared_breaks_3 : worst (faults schema user (authors (at_a (codes "name")) tree.no_join (tree.filter (tree.test (at_a (codes "email")) (Compare Eq) (tree.text (codes "e") ∷ []))) by_id None)) ≡ due 3 (codes "a")
+compared_breaks_3 : worst
+    (faults schema user
+    (authors (at_a (codes "name")) tree.no_join (tree.filter (tree.test (at_a (codes "email")) (Compare Eq) (tree.text (codes "e") ∷ [])))
+    by_id None))
+    ≡ due 3 (codes "a")
 unfolding table_alias fold_alias join_alias value_name key_name needed_name unit_name digits
 compared_breaks_3 = refl
 
@@ -199,7 +218,11 @@ unfolding table_alias fold_alias join_alias value_name key_name needed_name unit
 compared_key_breaks_5 = refl
 
 -- and one that is sorted by downwards
-downwards_breaks_5 : worst (faults schema keyless (authors (at_a (codes "name")) tree.no_join tree.no_filter (record { value = at_a (codes "id"); desc = true; nulls_first = false } ∷ by_id) None)) ≡ due 5 (codes "a")
+downwards_breaks_5 : worst
+    (faults schema keyless
+    (authors (at_a (codes "name")) tree.no_join tree.no_filter
+    (record { value = at_a (codes "id"); desc = true; nulls_first = false } ∷ by_id) None))
+    ≡ due 5 (codes "a")
 unfolding table_alias fold_alias join_alias value_name key_name needed_name unit_name digits
 downwards_breaks_5 = refl
 
@@ -209,13 +232,20 @@ downwards_breaks_5 = refl
 abbrev other_article : Permission
 other_article = record article { filter = or_of (bexp is_published (bexp (test 1 (Compare Eq) (operands.List (Const (val.Int (pos 2)) ∷ [])) false) no_bexp)) }
 
-constant_breaks_2 : worst (faults schema (Some author ∷ Some other_article ∷ []) (statement (one (list (from_table 1) plain (field (codes "title") (column 2) no_field))) schema (rights_of user))) ≡ due 2 (codes "t1")
+constant_breaks_2 : worst
+    (faults schema (Some author ∷ Some other_article ∷ [])
+    (statement (one (list (from_table 1) plain (field (codes "title") (column 2) no_field))) schema (rights_of user)))
+    ≡ due 2 (codes "t1")
 unfolding table_alias fold_alias join_alias value_name key_name needed_name unit_name digits
 constant_breaks_2 = refl
 
 -- the rows of an EXISTS may stand in no order, but not with LIMIT
 abbrev some_author : (limit : Option ℕ) → FilterTree
-some_author limit = tree.filter (tree.exists (tree.rows [] (record { value = tree.bool true; name = codes "u" } ∷ []) (tree.table (codes "public") (codes "author") (codes "b")) tree.no_join tree.no_filter [] limit None))
+some_author limit =
+    tree.filter
+    (tree.exists
+    (tree.rows [] (record { value = tree.bool true; name = codes "u" } ∷ []) (tree.table (codes "public") (codes "author") (codes "b"))
+    tree.no_join tree.no_filter [] limit None))
 
 exists_is_confined : faults schema user (authors (at_a (codes "name")) tree.no_join (some_author None) by_id None) ≡ []
 unfolding table_alias fold_alias join_alias value_name key_name needed_name unit_name digits
@@ -256,7 +286,10 @@ equals name = tree.test (tree.column (codes "b") name Plain) (Compare Eq) (tree.
 abbrev visited : PredTree → SelectTree
 visited tie =
     tree.rows [] (record { value = at_a (codes "k"); name = codes "v" } ∷ []) (tree.table (codes "public") (codes "place") (codes "a")) tree.no_join
-    (tree.filter (tree.exists (tree.rows [] (record { value = tree.bool true; name = codes "u" } ∷ []) (tree.table (codes "public") (codes "visit") (codes "b")) tree.no_join (tree.filter tie) [] None None)))
+    (tree.filter
+    (tree.exists
+    (tree.rows [] (record { value = tree.bool true; name = codes "u" } ∷ []) (tree.table (codes "public") (codes "visit") (codes "b"))
+    tree.no_join (tree.filter tie) [] None None)))
     (sorted (at_a (codes "k")) ∷ []) None None
 
 link_is_confined : faults places visitor (visited (tree.all_of (tree.pred (equals (codes "a")) (tree.pred (equals (codes "b")) tree.no_pred)))) ≡ []

@@ -10,7 +10,9 @@ ghost use Rattle.hq_confine_rules.specs.Laws.{AsksConfined, KeepsPermitted};
 
 /// The law: a scan whose conjuncts contain those of its table's filter keeps permitted rows alone, whoever wrote it.
 pub fn scans_keep_permitted_rows()
-    ensures { (tables : Items Table) (meta : MetaTree) (grants : Grants) (database : Items (Items Row)) (table : ℕ) (alias : Items ℕ) (condition : FilterTree) → KeepsPermitted tables meta grants database table alias condition }
+    ensures { (tables : Items Table) (meta : MetaTree) (grants : Grants) (database : Items (Items Row)) (table : ℕ) (alias : Items ℕ)
+        (condition : FilterTree)
+        → KeepsPermitted tables meta grants database table alias condition }
 {}
 
 /// The law: the statement of fields that ask for what is granted is confined for who asks.

@@ -41,7 +41,9 @@ filters_are s vars (o ∷ os) =
 
 module _ (role : Role) (m : MetaTree) (s : Schema) where
   -- tables that are too wide
-  pub widths_are : (os : List Source) → first_of (λ t. refused_if (nat_lt 200 (length t.columns)) (refusal.TooWide (full_name t))) (map (copied_table role m s) os) ≡ first_of (width_refusal role m s) os
+  pub widths_are : (os : List Source)
+      → first_of (λ t. refused_if (nat_lt 200 (length t.columns)) (refusal.TooWide (full_name t))) (map (copied_table role m s) os)
+      ≡ first_of (width_refusal role m s) os
   widths_are [] = refl
   widths_are (o ∷ os) = ap (or_else (width_refusal role m s o)) (widths_are os)
 
@@ -52,7 +54,10 @@ module _ (role : Role) (m : MetaTree) (s : Schema) where
 
   -- the first cause: filters, what else is told without rows, and then the rows
   pub causes_are : (vars : List Var) (S : Sees ℕ)
-      → copy_refusal role m s vars S ≡ or_else (refusal_in (granted_due s vars (sources role m))) (or_else (described_refusal role m s) (files_of (map (copied_table role m s) (sources role m)) (map (rows_of role m s S) (sources role m))))
+      → copy_refusal role m s vars S
+      ≡ or_else (refusal_in (granted_due s vars (sources role m)))
+      (or_else (described_refusal role m s)
+      (files_of (map (copied_table role m s) (sources role m)) (map (rows_of role m s S) (sources role m))))
   causes_are vars S =
       let os = sources role m in
       let names = schema_name_refusal (schema_of (copied_tables role m s) (copied_meta role m s)) (copied_meta role m s) in

@@ -17,7 +17,8 @@ use Rattle.hq_model.specs.declared.role.Role.{Role}
 -- ---- lists over positions
 
 -- a test of positions that is one of the items there finds the same place
-pub place_over : {A : Type 0} (p : ℕ → Bool) (q : A → Bool) (n k : ℕ) (ys : List A) → ((j : ℕ) (y : A) → slice_get ys j ≡ Some y → p (k + j) ≡ q y) → position_from p n (places k ys) ≡ position_from q n ys
+pub place_over : {A : Type 0} (p : ℕ → Bool) (q : A → Bool) (n k : ℕ) (ys : List A)
+    → ((j : ℕ) (y : A) → slice_get ys j ≡ Some y → p (k + j) ≡ q y) → position_from p n (places k ys) ≡ position_from q n ys
 place_over p q n k [] h = refl
 place_over p q n k (y ∷ ys) h =
     let zeroth : k + 0 ≡ k = omega arith in

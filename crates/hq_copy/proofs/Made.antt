@@ -25,7 +25,8 @@ use Rattle.hq_copy.proofs.Bridge.{lists_are}
 use Rattle.hq_copy.proofs.Causes.{causes_are, or_else_assoc}
 
 -- copies of equal parts
-same_copy : (t u : List Table) (m n : MetaTree) (d e : List (List Row)) → t ≡ u → m ≡ n → d ≡ e → ◌≡◌ {A = Copied} (record { tables = t; meta = m; rows = d }) (record { tables = u; meta = n; rows = e })
+same_copy : (t u : List Table) (m n : MetaTree) (d e : List (List Row)) → t ≡ u → m ≡ n → d ≡ e
+    → ◌≡◌ {A = Copied} (record { tables = t; meta = m; rows = d }) (record { tables = u; meta = n; rows = e })
 same_copy t u m n d e p q r =
     ap (λ (x : List Table). record { tables = x; meta = m; rows = d }) p
     ∙ ap (λ (x : MetaTree). record { tables = u; meta = x; rows = d }) q
@@ -68,7 +69,10 @@ module _ (tables : List Table) (m : MetaTree) (session : Session) (d : List (Lis
 
 -- what is refused before rows are read
 pub planned_refused : (tables : List Table) (m : MetaTree) (session : Session) (d : List (List Row)) (e : CopyRefusal)
-    → or_else (refusal_in (granted_due (schema_of tables m) session.vars (sources (role_of session.role) m))) (described_refusal (role_of session.role) m (schema_of tables m)) ≡ Some e → copy_due tables m session d ≡ Err e
+    → or_else (refusal_in (granted_due (schema_of tables m) session.vars (sources (role_of session.role) m)))
+    (described_refusal (role_of session.role) m (schema_of tables m))
+    ≡ Some e
+    → copy_due tables m session d ≡ Err e
 planned_refused tables m session d e h =
     let role = role_of session.role in
     let s = schema_of tables m in

@@ -51,7 +51,8 @@ module _ (role : Role) (m : MetaTree) (s : Schema) (g : Grants) (d : List (List 
 
   -- the numbers of a link
   from_is : (l : Link) → IsThere role m s l → (i : ℕ) (x : Row) → slice_get (P l.table) i ≡ Some x
-      → from_number ((seen_in (view s g d)).linked l.table l.relationship) ((seen_in (view s g d)).rows (link_remote s l)) i ≡ from_number (linked_by (rel s l.table l.relationship).pairs) (P (link_remote s l)) x
+      → from_number ((seen_in (view s g d)).linked l.table l.relationship) ((seen_in (view s g d)).rows (link_remote s l)) i
+      ≡ from_number (linked_by (rel s l.table l.relationship).pairs) (P (link_remote s l)) x
   from_is l there i x at =
       let S = seen_in (view s g d) in
       ap (λ ys. from_number (S.linked l.table l.relationship) ys i) (seen_positions s g d (link_remote s l))

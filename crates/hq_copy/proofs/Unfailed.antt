@@ -122,4 +122,6 @@ pub files_unfailed : (ts : List Table) (d : List (List Row)) → Unfailed (files
 files_unfailed [] d = none_unfailed
 files_unfailed (t ∷ ts) [] = none_unfailed
 files_unfailed (t ∷ ts) (rows ∷ d) =
-    either_unfailed (file_of t rows) (files_of ts d) (either_unfailed _ (row_refusal (full_name t) 1 rows) (written_unfailed _ (full_name t) 0) (rows_unfailed (full_name t) 1 rows)) (files_unfailed ts d)
+    either_unfailed (file_of t rows) (files_of ts d)
+    (either_unfailed _ (row_refusal (full_name t) 1 rows) (written_unfailed _ (full_name t) 0) (rows_unfailed (full_name t) 1 rows))
+    (files_unfailed ts d)

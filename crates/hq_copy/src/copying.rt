@@ -22,7 +22,10 @@ fn permitted<'d>(
     grants: &[PermView],
     tables: &[&'d Rows],
 ) -> Result<Vec<RowRefs<'d>>, Memory>
-    ensures { IfOk result (λ lists. lists_of lists.items ≡ permitted_lists (schema_in original.now) (database_of tables.now) (map source_view original.now.sources.now) (map permission_view grants.now)) }
+    ensures { IfOk result
+        (λ lists. lists_of lists.items
+        ≡ permitted_lists (schema_in original.now) (database_of tables.now) (map source_view original.now.sources.now)
+        (map permission_view grants.now)) }
 {
     let mut lists = Vec::new(alloc);
     let sources = original.sources;
@@ -61,7 +64,10 @@ pub fn all_copied_rows(
     tables: &[&Rows],
 ) -> Result<Vec<RowList>, Memory>
     requires { IsOriginal original.now }
-    ensures { IfOk result (λ all. all.items ≡ lists_due (role_in original.now) (meta_in original.now) (schema_in original.now) (database_of tables.now) (map source_view original.now.sources.now) (map permission_view grants.now)) }
+    ensures { IfOk result
+        (λ all. all.items
+        ≡ lists_due (role_in original.now) (meta_in original.now) (schema_in original.now) (database_of tables.now)
+        (map source_view original.now.sources.now) (map permission_view grants.now)) }
 {
     let permitted = permitted(alloc, original, grants, tables)?;
     let world = World {

@@ -63,7 +63,11 @@ fn check_plan(
 fn planned(alloc: Global, original: &Original<'_>, session: &Session) -> Result<Plan, CopyRefusal>
     requires { IsOriginal original.now }
     ensures plan { IfOk result (PlannedFor (role_in original.now) (meta_in original.now) (schema_in original.now) session.now.vars) }
-    ensures refused { Refuses (or_else (refusal_in (granted_due (schema_in original.now) session.now.vars (sources (role_in original.now) (meta_in original.now)))) (described_refusal (role_in original.now) (meta_in original.now) (schema_in original.now))) result }
+    ensures refused { Refuses
+        (or_else
+        (refusal_in (granted_due (schema_in original.now) session.now.vars (sources (role_in original.now) (meta_in original.now))))
+        (described_refusal (role_in original.now) (meta_in original.now) (schema_in original.now)))
+        result }
 {
     let grants = granted(alloc, &original.scope, session, original.sources)?;
     let tables = copied_tables(alloc, original)?;

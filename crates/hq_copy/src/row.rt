@@ -51,7 +51,10 @@ impl<'d> World<'d> {
     // The value of an added column in the row at a position, counted from 0.
     fn extra_value(&self, at: usize, row: &[Val], extra: Extra) -> Val
         requires { at + 1 < 2 ^ 63 }
-        ensures { result ≡ direct_value (schema_in self.now.original.now) (rows_for (map source_view self.now.original.now.sources.now) (lists_of self.now.permitted.now)) at row.now (extra_view extra) }
+        ensures { result
+            ≡ direct_value (schema_in self.now.original.now)
+            (rows_for (map source_view self.now.original.now.sources.now) (lists_of self.now.permitted.now)) at row.now
+            (extra_view extra) }
     {
         match extra {
             Extra::From { link, .. } => {
@@ -96,7 +99,13 @@ fn push_extras(
     values: &mut ValList,
 ) -> Result<(), Memory>
     requires { at + 1 < 2 ^ 63 }
-    ensures { OnOk result (values.new ≡ values.old ++ map (direct_value (schema_in world.now.original.now) (rows_for (map source_view world.now.original.now.sources.now) (lists_of world.now.permitted.now)) at row.now) (map extra_view extras.now)) }
+    ensures { OnOk result
+        (values.new
+        ≡ values.old
+        ++ map
+        (direct_value (schema_in world.now.original.now)
+        (rows_for (map source_view world.now.original.now.sources.now) (lists_of world.now.permitted.now)) at row.now)
+        (map extra_view extras.now)) }
 {
     for extra in extras {
         values.push(world.extra_value(at, row, *extra))?;

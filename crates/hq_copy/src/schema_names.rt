@@ -93,7 +93,12 @@ fn push_aggregated(
     aggregates: &[Aggregate],
     names: &mut TxtList,
 ) -> Result<(), Memory>
-    ensures { OnOk result ((m : MetaTree) → names.new ≡ names.old ++ map (λ a. tracked.now.name ++ aggregate_suffix a) (filter (is_aggregated (schema_of tables.now m) (tracked_view tracked.now)) aggregates.now)) }
+    ensures { OnOk result
+        ((m : MetaTree)
+        → names.new
+        ≡ names.old
+        ++ map (λ a. tracked.now.name ++ aggregate_suffix a)
+        (filter (is_aggregated (schema_of tables.now m) (tracked_view tracked.now)) aggregates.now)) }
 {
     for aggregate in aggregates {
         if is_aggregated(tables, tracked, *aggregate) {

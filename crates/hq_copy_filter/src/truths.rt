@@ -137,7 +137,11 @@ fn related(
     r: RelId,
     row: &[Val],
 ) -> Result<Truth, Memory>
-    ensures { IfOk result (λ found. found ≡ truth_of (some_kept (bexp_view bexp.now) (scope_schema scope.now) (database_of tables.now) (rel (scope_schema scope.now) t r).remote (rel (scope_schema scope.now) t r).pairs row.now)) }
+    ensures { IfOk result
+        (λ found. found
+        ≡ truth_of
+        (some_kept (bexp_view bexp.now) (scope_schema scope.now) (database_of tables.now) (rel (scope_schema scope.now) t r).remote
+        (rel (scope_schema scope.now) t r).pairs row.now)) }
 {
     let pairs = pairs_of(scope, t, r);
     let remote = scope.remote(t, r);

@@ -59,7 +59,10 @@ fn permitted_columns(
     scope: &Scope<'_>,
     source: &Source<'_>,
 ) -> Result<ColumnList, Memory>
-    ensures { IfOk result (λ columns. columns ≡ map (copied_column (scope_schema scope.now) (source_view source.now).permission (source_view source.now).entry.table) (source_view source.now).permission.columns) }
+    ensures { IfOk result
+        (λ columns. columns
+        ≡ map (copied_column (scope_schema scope.now) (source_view source.now).permission (source_view source.now).entry.table)
+        (source_view source.now).permission.columns) }
 {
     let t = source.entry.table;
     let mut columns = List::new(alloc);

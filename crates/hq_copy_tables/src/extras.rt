@@ -45,7 +45,10 @@ fn push_remote(
     link: &Link,
     ends: &mut Vec<Extra>,
 ) -> Result<(), Memory>
-    ensures { OnOk result (map extra_view ends.new.items ≡ map extra_view ends.old.items ++ cond (remote_of (scope_schema scope.now) (link_view link.now) == t) (to_end number (link_view link.now) ∷ []) []) }
+    ensures { OnOk result
+        (map extra_view ends.new.items
+        ≡ map extra_view ends.old.items
+        ++ cond (remote_of (scope_schema scope.now) (link_view link.now) == t) (to_end number (link_view link.now) ∷ []) []) }
 {
     if link_remote(scope, *link).at() == t.at() {
         let end = Extra::To {

@@ -99,7 +99,10 @@ fn copied_rel(alloc: Global, original: &Original<'_>, link: Link) -> Result<Rel,
 // The relationships of a table of the copy.
 fn copied_rels(alloc: Global, original: &Original<'_>, table: TableId) -> Result<RelList, Memory>
     requires { IsOriginal original.now }
-    ensures { IfOk result (λ rels. rels ≡ map (copied_rel (role_in original.now) (meta_in original.now) (schema_in original.now) table) (kept_relationships (role_in original.now) (meta_in original.now) (schema_in original.now) table)) }
+    ensures { IfOk result
+        (λ rels. rels
+        ≡ map (copied_rel (role_in original.now) (meta_in original.now) (schema_in original.now) table)
+        (kept_relationships (role_in original.now) (meta_in original.now) (schema_in original.now) table)) }
 {
     let kept = kept_relationships(alloc, &original.scope, original.role, table)?;
     let mut rels = List::new(alloc);

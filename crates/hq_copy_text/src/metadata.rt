@@ -131,7 +131,18 @@ fn push_rels(
     tracked: &Tracked,
     members: &mut Members,
 ) -> Result<(), Memory>
-    ensures { OnOk result (map member_view members.new.items ≡ map member_view members.old.items ++ (field_name field.ObjectRelationships, list (map (rel_json tables.now (columns_of tables.now tracked.now.table)) (those false tracked.now.rels))) ∷ (field_name field.ArrayRelationships, list (map (rel_json tables.now (columns_of tables.now tracked.now.table)) (those true tracked.now.rels))) ∷ []) }
+    ensures { OnOk result
+        (map member_view members.new.items
+        ≡ map member_view members.old.items
+        ++ (
+          field_name field.ObjectRelationships,
+          list (map (rel_json tables.now (columns_of tables.now tracked.now.table)) (those false tracked.now.rels)),
+        )
+        ∷ (
+          field_name field.ArrayRelationships,
+          list (map (rel_json tables.now (columns_of tables.now tracked.now.table)) (those true tracked.now.rels)),
+        )
+        ∷ []) }
 {
     let own = columns_of(tables, tracked.table);
     let rels = tracked.rels.as_slice();

@@ -63,9 +63,14 @@ module _ (fitting : (tables : List Table) (m : MetaTree) (session : Session) (v 
       let rows_are = holding tables m session d c fit valid done in
       let told : part_text c name ≡ Some text = given_text (part_text c name) text due in
       let plain : IsPlain c.tables c.meta =
-      subst (λ (k : Copied). list_all is_clean_entry k.meta.tracked ≡ true → has_clean_names k.tables ≡ true → is_catalog k.tables ≡ true → fits k.tables k.meta ≡ true → IsPlain k.tables k.meta) made.1
+      subst
+      (λ (k : Copied). list_all is_clean_entry k.meta.tracked ≡ true → has_clean_names k.tables ≡ true → is_catalog k.tables ≡ true
+      → fits k.tables k.meta ≡ true → IsPlain k.tables k.meta)
+      made.1
       (metadata_plain role m s) clean.metadata clean.catalog fit_is.0 fit_is.1 in
-      let causes : or_else (refusal_in (granted_due s session.vars (sources role m))) (or_else (described_refusal role m s) (files_of (copy_of tables m session v).tables (copy_of tables m session v).rows)) ≡ None =
+      let causes : or_else (refusal_in (granted_due s session.vars (sources role m)))
+      (or_else (described_refusal role m s) (files_of (copy_of tables m session v).tables (copy_of tables m session v).rows))
+      ≡ None =
       sym (causes_are role m s session.vars (seen_in v)) ∙ made.0 in
       let unrefused : files_of c.tables c.rows ≡ None = ap (λ (k : Copied). files_of k.tables k.rows) (sym made.1) ∙ (neither _ _ (neither _ _ causes).1).1 in
       let apart = differ_apart (λ (a b : Table). bytes_eq (full_name a) (full_name b)) c.tables (and_parts _ _ (and_parts _ _ fit_is.0).0).1 in
@@ -80,7 +85,10 @@ module _ (fitting : (tables : List Table) (m : MetaTree) (session : Session) (v 
             ap (meta_due c.tables) (sym same) ∙ metadata c.tables c.meta plain;
         table = λ i t rows at beside e.
             let is : part_text c (full_name t) ≡ Some (file_of t rows) =
-            ap (λ b. cond b (Some (compact (catalog_json c.tables))) (cond (bytes_eq (full_name t) (codes "metadata")) (Some (compact (meta_json c.tables c.meta))) (table_text c.tables c.rows (full_name t))))
+            ap
+            (λ b. cond b (Some (compact (catalog_json c.tables)))
+            (cond (bytes_eq (full_name t) (codes "metadata")) (Some (compact (meta_json c.tables c.meta)))
+            (table_text c.tables c.rows (full_name t))))
             (other_part t (codes "catalog") refl)
             ∙ ap (λ b. cond b (Some (compact (meta_json c.tables c.meta))) (table_text c.tables c.rows (full_name t))) (other_part t (codes "metadata") refl)
             ∙ text_at c.tables c.rows i t rows apart at beside in

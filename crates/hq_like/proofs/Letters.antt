@@ -23,7 +23,8 @@ ends_too_short letters more [] lt = too_short letters more [] lt
 ends_too_short letters more (c ∷ cs) lt = rw (too_short letters more (c ∷ cs) lt) (ends_too_short letters more cs (omega (arith, lt)))
 
 -- first letters and then another one than the next
-pub other_letter : (letters : List ℕ) (more : List Step) (state c : ℕ) (rest : List ℕ) → state < length letters → (get_or letters state 0 == c) ≡ false → meets false (letters_then letters more) (take state letters ++ c ∷ rest) ≡ false
+pub other_letter : (letters : List ℕ) (more : List Step) (state c : ℕ) (rest : List ℕ) → state < length letters
+    → (get_or letters state 0 == c) ≡ false → meets false (letters_then letters more) (take state letters ++ c ∷ rest) ≡ false
 other_letter [] more state c rest lt other = absurd (omega (arith, lt))
 other_letter (d ∷ ds) more zero c rest lt other = rw other refl
 other_letter (d ∷ ds) more (suc state) c rest lt other =
@@ -62,10 +63,13 @@ reads_more letters text state next c before after =
 
 -- the letter is still to be read: so many first letters count for those that were read
 pub record Waits (letters : List ℕ) (c read state : ℕ) : Type 0 where
-  pub same : (more : List Step) (rest : List ℕ) → some_end (meets false (letters_then letters more)) (take read letters ++ c ∷ rest) ≡ some_end (meets false (letters_then letters more)) (take state letters ++ c ∷ rest)
+  pub same : (more : List Step) (rest : List ℕ)
+      → some_end (meets false (letters_then letters more)) (take read letters ++ c ∷ rest)
+      ≡ some_end (meets false (letters_then letters more)) (take state letters ++ c ∷ rest)
 
 -- going back where the next letter is another one
-pub waits_back : (letters : List ℕ) (c read state back : ℕ) → Waits letters c read state → state < length letters → 0 < state → (get_or letters state 0 == c) ≡ false → IsBack letters state back → Waits letters c read back
+pub waits_back : (letters : List ℕ) (c read state back : ℕ) → Waits letters c read state → state < length letters → 0 < state
+    → (get_or letters state 0 == c) ≡ false → IsBack letters state back → Waits letters c read back
 waits_back letters c read state back waits lt some other is =
     record {
       same = λ more rest.
@@ -109,10 +113,12 @@ back_one [] lt = absurd (omega (arith, lt))
 back_one (c ∷ cs) lt = record { shorter = omega arith; reads = record { same = λ more rest. refl } }
 
 -- the entry behind one more letter
-pub back_more : (letters : List ℕ) (state back next : ℕ) → 0 < state → state < length letters → IsBack letters state back → next ≤ back + 1 → Reads letters (take back letters ++ get_or letters state 0 ∷ []) next → IsBack letters (state + 1) next
+pub back_more : (letters : List ℕ) (state back next : ℕ) → 0 < state → state < length letters → IsBack letters state back → next ≤ back + 1
+    → Reads letters (take back letters ++ get_or letters state 0 ∷ []) next → IsBack letters (state + 1) next
 back_more letters state back next some lt is within reads =
     let c = get_or letters state 0 in
-    let longer : but_first (take (state + 1) letters) ≡ but_first (take state letters) ++ c ∷ [] = ap but_first (take_more letters state 0 lt) ∙ but_first_more (take state letters) c (taken_some letters state lt some) in
+    let longer : but_first (take (state + 1) letters) ≡ but_first (take state letters) ++ c ∷ [] =
+    ap but_first (take_more letters state 0 lt) ∙ but_first_more (take state letters) c (taken_some letters state lt some) in
     let shorter = is.shorter in
     record { shorter = omega (arith, shorter); reads = subst (λ l. Reads letters l next) (sym longer) (reads_more letters (but_first (take state letters)) back next c is.reads reads) }
 

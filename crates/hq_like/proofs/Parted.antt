@@ -16,5 +16,6 @@ joined_more [] s last = refl
 joined_more (t ∷ ss) s last = ap (with_segment t) (joined_more ss s last)
 
 -- what a text is behind its front
-pub parted : (front : List Place) (more : List Step) (text : List ℕ) (o : Option (List ℕ)) → after_places front text ≡ o → meets false (places_view front ++ more) text ≡ option_map_or (meets false more) o false
+pub parted : (front : List Place) (more : List Step) (text : List ℕ) (o : Option (List ℕ)) → after_places front text ≡ o
+    → meets false (places_view front ++ more) text ≡ option_map_or (meets false more) o false
 parted front more text o is = places_then front more text ∙ ap (λ p. option_map_or (meets false more) p false) is

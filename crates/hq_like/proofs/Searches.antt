@@ -39,7 +39,8 @@ places_alone (One ∷ ps) (c ∷ cs) = places_alone ps cs
 places_alone (This d ∷ ps) [] = refl
 places_alone (This d ∷ ps) (c ∷ cs) = tested is_empty (d == c) (meets false (places_view ps) cs) (after_places ps cs) (places_alone ps cs)
 
-picked : (b : Bool) (o : Option (List ℕ)) (r : Reach) (later : List Step) (rest : List ℕ) → (if b then o else None) ≡ Some rest → (o ≡ Some rest → r ≡ up_to_any later rest) → (if b then r else misfit) ≡ up_to_any later rest
+picked : (b : Bool) (o : Option (List ℕ)) (r : Reach) (later : List Step) (rest : List ℕ) → (if b then o else None) ≡ Some rest
+    → (o ≡ Some rest → r ≡ up_to_any later rest) → (if b then r else misfit) ≡ up_to_any later rest
 picked true o r later rest h f = f h
 picked false o r later rest h f = cc
 
@@ -59,7 +60,8 @@ places_met ps later cs rest h = up_to_any_finds false (tail_then ps later) later
 pub places_missed : (ps : List Place) (later : List Step) (cs : List ℕ) → after_places ps cs ≡ None → meets false (tail_then ps later) cs ≡ false
 places_missed ps later cs h = places_then ps (step.Any ∷ later) cs ∙ ap (λ o. option_map_or (meets false (step.Any ∷ later)) o false) h
 
-pub missed_first : (ps : List Place) (later : List Step) (text : List ℕ) (c : ℕ) (cs : List ℕ) → text ≡ c ∷ cs → after_places ps text ≡ None → some_end (meets false (tail_then ps later)) text ≡ some_end (meets false (tail_then ps later)) cs
+pub missed_first : (ps : List Place) (later : List Step) (text : List ℕ) (c : ℕ) (cs : List ℕ) → text ≡ c ∷ cs → after_places ps text ≡ None
+    → some_end (meets false (tail_then ps later)) text ≡ some_end (meets false (tail_then ps later)) cs
 missed_first ps later text c cs is h =
     let test = meets false (tail_then ps later) in
     let fails : test (c ∷ cs) ≡ false = places_missed ps later (c ∷ cs) (ap (after_places ps) (sym is) ∙ h) in
@@ -90,10 +92,12 @@ pub letters_met : (letters : List ℕ) (ps : List Place) (later : List Step) (st
     → some_end (meets false (letters_then letters (tail_then ps later))) (take state letters ++ cs) ≡ some_end (meets false later) rest
 letters_met letters ps later state cs rest all h =
     ap (λ l. some_end (meets false (letters_then letters (tail_then ps later))) (l ++ cs)) (take_whole letters state all)
-    ∙ up_to_any_finds false (letters_then letters (tail_then ps later)) later (letters ++ cs) rest (some_end (meets false later) rest) (front_letters letters (tail_then ps later) cs ∙ front_places ps later cs rest h) refl
+    ∙ up_to_any_finds false (letters_then letters (tail_then ps later)) later (letters ++ cs) rest (some_end (meets false later) rest)
+    (front_letters letters (tail_then ps later) cs ∙ front_places ps later cs rest h) refl
 
 -- where it is not, fewer letters count
-pub letters_missed : (letters : List ℕ) (ps : List Place) (later : List Step) (state back : ℕ) (cs : List ℕ) → state ≡ length letters → 0 < length letters → IsBack letters state back → after_places ps cs ≡ None
+pub letters_missed : (letters : List ℕ) (ps : List Place) (later : List Step) (state back : ℕ) (cs : List ℕ) → state ≡ length letters
+    → 0 < length letters → IsBack letters state back → after_places ps cs ≡ None
     → some_end (meets false (letters_then letters (tail_then ps later))) (take state letters ++ cs) ≡ some_end (meets false (letters_then letters (tail_then ps later))) (take back letters ++ cs)
 letters_missed letters ps later state back cs all some is h =
     let test = meets false (letters_then letters (tail_then ps later)) in
@@ -115,7 +119,8 @@ length_taken (suc state) [] = omega arith
 length_taken (suc state) (x ∷ xs) = let later = length_taken state xs in omega (arith, later)
 
 -- none is left
-pub letters_end : (letters : List ℕ) (more : List Step) (state : ℕ) (left : List ℕ) → left ≡ [] → state < length letters → some_end (meets false (letters_then letters more)) (take state letters ++ left) ≡ false
+pub letters_end : (letters : List ℕ) (more : List Step) (state : ℕ) (left : List ℕ) → left ≡ [] → state < length letters
+    → some_end (meets false (letters_then letters more)) (take state letters ++ left) ≡ false
 letters_end letters more state left is lt =
     let short = length_taken state letters in
     ap (λ l. some_end (meets false (letters_then letters more)) (take state letters ++ l)) is
@@ -166,7 +171,8 @@ pub text_short : (fold : Bool) (text : List ℕ) (ps : List Place) (n : ℕ) →
 text_short fold text ps n is lt = let long = long_read fold text n is in ends_short ps (read fold text) (omega (arith, lt, long))
 
 -- else its last characters are to be looked at
-pub text_end : (fold : Bool) (text later : List ℕ) (ps : List Place) (n : ℕ) (o : Option (List ℕ)) → n ≡ length (chars text) → length ps ≤ n → chars later ≡ drop (n - length ps) (chars text) → after_places ps (read fold later) ≡ o
+pub text_end : (fold : Bool) (text later : List ℕ) (ps : List Place) (n : ℕ) (o : Option (List ℕ)) → n ≡ length (chars text) → length ps ≤ n
+    → chars later ≡ drop (n - length ps) (chars text) → after_places ps (read fold later) ≡ o
     → some_end (meets false (places_view ps)) (read fold text) ≡ option_map_or is_empty o false
 text_end fold text later ps n o is le behind found =
     let long = long_read fold text n is in

@@ -91,17 +91,25 @@ added_one xs before middle after was between is =
           let first : signs_view after ++ more ≡ signs_view xs ++ One ∷ Any ∷ more =
           ap (λ l. signs_view l ++ more) (is ∙ ap (λ l. l ++ mark.Any ∷ []) between) ∙ signs_then (xs ++ mark.One ∷ []) mark.Any more ∙ signs_then xs mark.One (Any ∷ more) in
           let second : signs_view before ++ One ∷ more ≡ signs_view xs ++ Any ∷ One ∷ more = ap (λ l. signs_view l ++ One ∷ more) was ∙ signs_then xs mark.Any (One ∷ more) in
-          record { same = λ cs. ap (λ l. meets false l cs) first ∙ (behind_steps (signs_view xs) (One ∷ Any ∷ more) (Any ∷ One ∷ more) (one_any more)).same cs ∙ sym (ap (λ l. meets false l cs) second) };
+          record {
+            same = λ cs. ap (λ l. meets false l cs) first
+                ∙ (behind_steps (signs_view xs) (One ∷ Any ∷ more) (Any ∷ One ∷ more) (one_any more)).same cs
+                ∙ sym (ap (λ l. meets false l cs) second);
+          };
     }
 
 -- ---- what is left of a pattern
 
 -- the front of mapped steps
-pub mapped_front : (fold : Bool) (s t : Step) (o : Option (List Step)) → lowered fold s ≡ t → option_map (map (lowered fold)) (option_map (λ steps. s ∷ steps) o) ≡ option_map (λ steps. t ∷ steps) (option_map (map (lowered fold)) o)
+pub mapped_front : (fold : Bool) (s t : Step) (o : Option (List Step)) → lowered fold s ≡ t
+    → option_map (map (lowered fold)) (option_map (λ steps. s ∷ steps) o)
+    ≡ option_map (λ steps. t ∷ steps) (option_map (map (lowered fold)) o)
 mapped_front fold s t None is = refl
 mapped_front fold s t (Some steps) is = ap (λ x. Some (x ∷ map (lowered fold) steps)) is
 
-onward : (test : List Step → Bool) (low : List Step → List Step) (s : Step) (o p : Option (List Step)) → option_map low o ≡ option_map (λ steps. s ∷ steps) (option_map low p) → option_map_or (λ steps. test (low steps)) o false ≡ option_map_or (λ steps. test (s ∷ low steps)) p false
+onward : (test : List Step → Bool) (low : List Step → List Step) (s : Step) (o p : Option (List Step))
+    → option_map low o ≡ option_map (λ steps. s ∷ steps) (option_map low p)
+    → option_map_or (λ steps. test (low steps)) o false ≡ option_map_or (λ steps. test (s ∷ low steps)) p false
 onward test low s None None is = refl
 onward test low s None (Some y) is = cc
 onward test low s (Some x) None is = cc
@@ -112,14 +120,18 @@ same_tests p q same None = refl
 same_tests p q same (Some x) = same x
 
 -- one sign more is read of a pattern
-pub sign_read : (fold : Bool) (before after : List Sign) (sign : Sign) (o p : Option (List Step)) (cs : List ℕ) → option_map (map (lowered fold)) o ≡ option_map (λ steps. sign_view sign ∷ steps) (option_map (map (lowered fold)) p) → Adds before sign after
+pub sign_read : (fold : Bool) (before after : List Sign) (sign : Sign) (o p : Option (List Step)) (cs : List ℕ)
+    → option_map (map (lowered fold)) o ≡ option_map (λ steps. sign_view sign ∷ steps) (option_map (map (lowered fold)) p)
+    → Adds before sign after
     → option_map_or (λ steps. meets false (signs_view before ++ map (lowered fold) steps) cs) o false ≡ option_map_or (λ steps. meets false (signs_view after ++ map (lowered fold) steps) cs) p false
 sign_read fold before after sign o p cs is adds =
     onward (λ l. meets false (signs_view before ++ l) cs) (map (lowered fold)) (sign_view sign) o p is
-    ∙ same_tests (λ l. meets false (signs_view before ++ sign_view sign ∷ map (lowered fold) l) cs) (λ l. meets false (signs_view after ++ map (lowered fold) l) cs) (λ l. sym ((adds.same (map (lowered fold) l)).same cs)) p
+    ∙ same_tests (λ l. meets false (signs_view before ++ sign_view sign ∷ map (lowered fold) l) cs)
+    (λ l. meets false (signs_view after ++ map (lowered fold) l) cs) (λ l. sym ((adds.same (map (lowered fold) l)).same cs)) p
 
 -- all is read
-pub signs_whole : (fold : Bool) (signs : List Sign) (o : Option (List Step)) (cs : List ℕ) → o ≡ Some [] → option_map_or (λ steps. meets false (signs_view signs ++ map (lowered fold) steps) cs) o false ≡ meets false (signs_view signs) cs
+pub signs_whole : (fold : Bool) (signs : List Sign) (o : Option (List Step)) (cs : List ℕ) → o ≡ Some []
+    → option_map_or (λ steps. meets false (signs_view signs ++ map (lowered fold) steps) cs) o false ≡ meets false (signs_view signs) cs
 signs_whole fold signs o cs is =
     ap (λ p. option_map_or (λ steps. meets false (signs_view signs ++ map (lowered fold) steps) cs) p false) is ∙ ap (λ l. meets false l cs) (append-nil (signs_view signs))
 

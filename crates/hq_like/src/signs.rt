@@ -18,7 +18,9 @@ pub(crate) enum Sign {
 
 // What the pattern asks for where it goes on with this character; None where that is an escape left alone.
 fn sign_at(fold: bool, c: char, rest: &str) -> Option<(Sign, &str)>
-    ensures sign { MatchOption result (steps_of (c ∷ chars rest.now) ≡ None) (λ p. option_map (map (lowered fold)) (steps_of (c ∷ chars rest.now)) ≡ option_map (λ steps. sign_view p.0 ∷ steps) (option_map (map (lowered fold)) (steps_of (chars p.1.now)))) }
+    ensures sign { MatchOption result (steps_of (c ∷ chars rest.now) ≡ None)
+        (λ p. option_map (map (lowered fold)) (steps_of (c ∷ chars rest.now))
+        ≡ option_map (λ steps. sign_view p.0 ∷ steps) (option_map (map (lowered fold)) (steps_of (chars p.1.now)))) }
     ensures shorter { IfSome result (λ p. length (chars p.1.now) ≤ length (chars rest.now)) }
 {
     match c {

@@ -21,7 +21,8 @@ module _ {L : Type 0} (allows : List Header → HookAnswer → Type 0) (t : Told
   pub held_none : (s : Standing) (a : ℕ) (l : Option (List L)) (w : Option (List ℕ)) → HeldSoFar allows t 0 s s a a l l w w
   held_none s a l w = record { talks = []; count = refl; lines = appends_none w; holds = holds_none allows t s a l }
 
-  module _ (n : ℕ) (s m u : Standing) (a a1 a2 : ℕ) (l l1 l2 : Option (List L)) (w w1 w2 : Option (List ℕ)) (e : TalkEnd) (r : HeldSoFar allows t n s m a a1 l l1 w w1) (x : HoldsNext allows t m u a1 a2 l1 l2 e) where
+  module _ (n : ℕ) (s m u : Standing) (a a1 a2 : ℕ) (l l1 l2 : Option (List L)) (w w1 w2 : Option (List ℕ)) (e : TalkEnd)
+      (r : HeldSoFar allows t n s m a a1 l l1 w w1) (x : HoldsNext allows t m u a1 a2 l1 l2 e) where
     longer : length (r.talks ++ x.talk ∷ []) ≡ n + 1
     longer = length-append r.talks (x.talk ∷ []) ∙ ap (λ k. k + 1) r.count
 

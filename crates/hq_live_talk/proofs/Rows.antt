@@ -34,7 +34,9 @@ pub subscribes_by : (who : ℕ) (id body : List ℕ) (is_lasting : Bool) (o : Op
 subscribes_by who id body is_lasting o session copy once kept live live' (Err x) e k h = tt
 subscribes_by who id body is_lasting o session copy once kept live live' (Ok a) e k h =
     let P : Option Session → Type 0 = λ x. Subscribes who id body is_lasting x (talk_of x once live) (talk_of x kept live') a.texts.items a.code in
-    let Q : Session → Type 0 = λ x. Begins who id (once_with is_lasting id once) (event.Subscribe who id x body) (talk_of (Some session) once live) (talk_of (Some session) kept live') a.texts.items a.code in
+    let Q : Session → Type 0 =
+    λ x. Begins who id (once_with is_lasting id once) (event.Subscribe who id x body) (talk_of (Some session) once live)
+    (talk_of (Some session) kept live') a.texts.items a.code in
     let q : P (Some session) = subst Q k (h (Some session)) in
     subst P (sym e) q
 

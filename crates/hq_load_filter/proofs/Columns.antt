@@ -12,7 +12,8 @@ use Rattle.hq_model.specs.declared.test.Test.TheVariants.{Compare}
 use Rattle.hq_load_filter.specs.Condition.{single_due, written_on, column_due}
 use Rattle.hq_load_filter.specs.Each.{each_member}
 
-pub of_object : (x : SchemaTable) (c : ℕ) (ty : Ty) (path : List ℕ) (j : JsonTree) (ms : List (List ℕ × JsonTree)) → object_in j ≡ Some ms → column_due x c ty path j ≡ mapped conjunction (each_member (written_on x c ty) path ms)
+pub of_object : (x : SchemaTable) (c : ℕ) (ty : Ty) (path : List ℕ) (j : JsonTree) (ms : List (List ℕ × JsonTree)) → object_in j ≡ Some ms
+    → column_due x c ty path j ≡ mapped conjunction (each_member (written_on x c ty) path ms)
 of_object x c ty path null ms e = cc
 of_object x c ty path (bool b) ms e = cc
 of_object x c ty path (int n) ms e = cc

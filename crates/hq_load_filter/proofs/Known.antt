@@ -45,7 +45,8 @@ qualified_table-within tables path j =
     let P = λ (u : ℕ). u < length tables in
     ok_and_then (λ _. and_then (λ schema. and_then (λ name. table_named tables path schema name) (text_member path j (codes "name"))) (text_member path j (codes "schema"))) P (λ _. ⊤)
     (λ _ _. ok_and_then (λ schema. and_then (λ name. table_named tables path schema name) (text_member path j (codes "name"))) P (λ _. ⊤)
-    (λ schema _. ok_and_then (λ name. table_named tables path schema name) P (λ _. ⊤) (λ name _. table_named-within tables path schema name) (text_member path j (codes "name")) (ok_always (text_member path j (codes "name"))))
+    (λ schema _. ok_and_then (λ name. table_named tables path schema name) P (λ _. ⊤) (λ name _. table_named-within tables path schema name)
+    (text_member path j (codes "name")) (ok_always (text_member path j (codes "name"))))
     (text_member path j (codes "schema")) (ok_always (text_member path j (codes "schema"))))
     (ok_or (object_in j) (Shape path)) (ok_always (ok_or (object_in j) (Shape path)))
 

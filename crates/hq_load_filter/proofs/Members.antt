@@ -18,11 +18,18 @@ abbrev from : List Table → MetaTree → ℕ → List ℕ → List Member → R
 from tables d t path ms = members_due (members_of (map member_view ms)) tables d t path
 
 -- the first member, and then the rest
-first : (tables : List Table) (d : MetaTree) (t : ℕ) (path : List ℕ) (m : Member) (ms : List Member) → from tables d t path (m ∷ ms) ≡ and_then (λ b. mapped (λ bs. b ∷ bs) (from tables d t path ms)) (written tables d t (member_path path m.name) m.name (json_view m.value))
+first : (tables : List Table) (d : MetaTree) (t : ℕ) (path : List ℕ) (m : Member) (ms : List Member)
+    → from tables d t path (m ∷ ms)
+    ≡ and_then (λ b. mapped (λ bs. b ∷ bs) (from tables d t path ms))
+    (written tables d t (member_path path m.name) m.name (json_view m.value))
 first tables d t path m ms = ap (λ (p : List ℕ × JsonTree). members_due (member p.0 p.1 (members_of (map member_view ms))) tables d t path) (view-Member m)
 
 -- the member at a place, and then those behind it
-at_place : (tables : List Table) (d : MetaTree) (t : ℕ) (path : List ℕ) (ms : List Member) (i : ℕ) (m : Member) → i < length ms → m ≡ get_or ms i m → from tables d t path (drop i ms) ≡ and_then (λ b. mapped (λ bs. b ∷ bs) (from tables d t path (drop (i + 1) ms))) (written tables d t (member_path path m.name) m.name (json_view m.value))
+at_place : (tables : List Table) (d : MetaTree) (t : ℕ) (path : List ℕ) (ms : List Member) (i : ℕ) (m : Member) → i < length ms
+    → m ≡ get_or ms i m
+    → from tables d t path (drop i ms)
+    ≡ and_then (λ b. mapped (λ bs. b ∷ bs) (from tables d t path (drop (i + 1) ms)))
+    (written tables d t (member_path path m.name) m.name (json_view m.value))
 at_place tables d t path ms i m below is =
     ap (from tables d t path) (drop_more ms i m below ∙ ap (λ x. x ∷ drop (i + 1) ms) (sym is)) ∙ first tables d t path m (drop (i + 1) ms)
 
@@ -32,19 +39,31 @@ grown done y (Ok ys) = ap Ok (sym (append_assoc done (y ∷ []) ys))
 grown done y (Err e) = refl
 
 -- a member is read, and the loop goes on behind it
-pub members_more : (tables : List Table) (d : MetaTree) (t : ℕ) (path p : List ℕ) (ms : List Member) (i : ℕ) (m : Member) (done more : List BexpTree) (b : BexpTree) (whole : Result (List BexpTree) FilterRefusal) → whole ≡ mapped (λ bs. done ++ bs) (from tables d t path (drop i ms)) → i < length ms → m ≡ get_or ms i m → p ≡ member_path path m.name → written tables d t p m.name (json_view m.value) ≡ Ok b → more ≡ done ++ b ∷ [] → whole ≡ mapped (λ bs. more ++ bs) (from tables d t path (drop (i + 1) ms))
+pub members_more : (tables : List Table) (d : MetaTree) (t : ℕ) (path p : List ℕ) (ms : List Member) (i : ℕ) (m : Member)
+    (done more : List BexpTree) (b : BexpTree) (whole : Result (List BexpTree) FilterRefusal)
+    → whole ≡ mapped (λ bs. done ++ bs) (from tables d t path (drop i ms)) → i < length ms → m ≡ get_or ms i m → p ≡ member_path path m.name
+    → written tables d t p m.name (json_view m.value) ≡ Ok b → more ≡ done ++ b ∷ []
+    → whole ≡ mapped (λ bs. more ++ bs) (from tables d t path (drop (i + 1) ms))
 members_more tables d t path p ms i m done more b whole so_far below is here given grows =
     let rest : Result (List BexpTree) FilterRefusal = from tables d t path (drop (i + 1) ms) in
     so_far
-    ∙ ap (mapped (λ bs. done ++ bs)) (at_place tables d t path ms i m below is ∙ ap (and_then (λ x. mapped (λ bs. x ∷ bs) rest)) (ap (λ q. written tables d t q m.name (json_view m.value)) (sym here) ∙ given))
+    ∙ ap (mapped (λ bs. done ++ bs))
+    (at_place tables d t path ms i m below is
+    ∙ ap (and_then (λ x. mapped (λ bs. x ∷ bs) rest)) (ap (λ q. written tables d t q m.name (json_view m.value)) (sym here) ∙ given))
     ∙ grown done b rest
     ∙ ap (λ front. mapped (λ bs. front ++ bs) rest) (sym grows)
 
 -- a member is refused, and so the whole
-pub members_refused : (tables : List Table) (d : MetaTree) (t : ℕ) (path p : List ℕ) (ms : List Member) (i : ℕ) (m : Member) (done : List BexpTree) (e : FilterRefusal) (whole : Result (List BexpTree) FilterRefusal) → whole ≡ mapped (λ bs. done ++ bs) (from tables d t path (drop i ms)) → i < length ms → m ≡ get_or ms i m → p ≡ member_path path m.name → written tables d t p m.name (json_view m.value) ≡ Err e → whole ≡ Err e
+pub members_refused : (tables : List Table) (d : MetaTree) (t : ℕ) (path p : List ℕ) (ms : List Member) (i : ℕ) (m : Member)
+    (done : List BexpTree) (e : FilterRefusal) (whole : Result (List BexpTree) FilterRefusal)
+    → whole ≡ mapped (λ bs. done ++ bs) (from tables d t path (drop i ms)) → i < length ms → m ≡ get_or ms i m → p ≡ member_path path m.name
+    → written tables d t p m.name (json_view m.value) ≡ Err e → whole ≡ Err e
 members_refused tables d t path p ms i m done e whole so_far below is here given =
     so_far
-    ∙ ap (mapped (λ bs. done ++ bs)) (at_place tables d t path ms i m below is ∙ ap (and_then (λ x. mapped (λ bs. x ∷ bs) (from tables d t path (drop (i + 1) ms)))) (ap (λ q. written tables d t q m.name (json_view m.value)) (sym here) ∙ given))
+    ∙ ap (mapped (λ bs. done ++ bs))
+    (at_place tables d t path ms i m below is
+    ∙ ap (and_then (λ x. mapped (λ bs. x ∷ bs) (from tables d t path (drop (i + 1) ms))))
+    (ap (λ q. written tables d t q m.name (json_view m.value)) (sym here) ∙ given))
 
 -- ---- the member `_where`
 
@@ -52,9 +71,14 @@ members_refused tables d t path p ms i m done e whole so_far below is here given
 abbrev pub where_in : List Table → MetaTree → ℕ → (here : List ℕ) → List Member → Result BexpTree FilterRefusal
 where_in tables d t here ms = where_due (members_of (map member_view ms)) tables d t here
 
-where_first : (tables : List Table) (d : MetaTree) (t : ℕ) (here : List ℕ) (m : Member) (ms : List Member) → where_in tables d t here (m ∷ ms) ≡ cond (bytes_eq m.name (codes "_where")) (filter_due (json_view m.value) tables d t here) (where_in tables d t here ms)
+where_first : (tables : List Table) (d : MetaTree) (t : ℕ) (here : List ℕ) (m : Member) (ms : List Member)
+    → where_in tables d t here (m ∷ ms)
+    ≡ cond (bytes_eq m.name (codes "_where")) (filter_due (json_view m.value) tables d t here) (where_in tables d t here ms)
 where_first tables d t here m ms = ap (λ (p : List ℕ × JsonTree). where_due (member p.0 p.1 (members_of (map member_view ms))) tables d t here) (view-Member m)
 
-pub where_at : (tables : List Table) (d : MetaTree) (t : ℕ) (here : List ℕ) (ms : List Member) (i : ℕ) (m : Member) → i < length ms → m ≡ get_or ms i m → where_in tables d t here (drop i ms) ≡ cond (bytes_eq m.name (codes "_where")) (filter_due (json_view m.value) tables d t here) (where_in tables d t here (drop (i + 1) ms))
+pub where_at : (tables : List Table) (d : MetaTree) (t : ℕ) (here : List ℕ) (ms : List Member) (i : ℕ) (m : Member) → i < length ms
+    → m ≡ get_or ms i m
+    → where_in tables d t here (drop i ms)
+    ≡ cond (bytes_eq m.name (codes "_where")) (filter_due (json_view m.value) tables d t here) (where_in tables d t here (drop (i + 1) ms))
 where_at tables d t here ms i m below is =
     ap (where_in tables d t here) (drop_more ms i m below ∙ ap (λ x. x ∷ drop (i + 1) ms) (sym is)) ∙ where_first tables d t here m (drop (i + 1) ms)

@@ -27,7 +27,8 @@ use Rattle.hq_load_filter.specs.Variable.{variable_named}
 use Rattle.hq_load_filter.proofs.Results.{ok_always, ok_mapped, ok_and_then, ok_given}
 
 -- a session variable, or else a constant that passes a test
-either_fits : (Fits : Operand → Type 0) (variable : Option (List ℕ)) (value : Option Val) → ((name : List ℕ) → Fits (Session name)) → IfSome value (λ v. Fits (Const v)) → IfSome (option_or (option_map Session variable) (option_map Const value)) Fits
+either_fits : (Fits : Operand → Type 0) (variable : Option (List ℕ)) (value : Option Val) → ((name : List ℕ) → Fits (Session name))
+    → IfSome value (λ v. Fits (Const v)) → IfSome (option_or (option_map Session variable) (option_map Const value)) Fits
 either_fits Fits (Some name) value h k = h name
 either_fits Fits None (Some v) h k = k
 either_fits Fits None None h k = tt
@@ -64,14 +65,17 @@ module _ (t : Test) (ty : Ty) (is : applies t ty ≡ true) where
   operands_fit path place [] = refl
   operands_fit path place (j ∷ js) =
       ok_and_then (λ o. mapped (λ os. o ∷ os) (each_element (operand_at t ty) path (place + 1) js)) _ Fits
-      (λ o h. ok_mapped (λ os. o ∷ os) _ (λ os. list_all (operand_fits t ty) os ≡ true) (λ os k. rw (h, k) refl) (each_element (operand_at t ty) path (place + 1) js) (operands_fit path (place + 1) js))
+      (λ o h. ok_mapped (λ os. o ∷ os) _ (λ os. list_all (operand_fits t ty) os ≡ true) (λ os k. rw (h, k) refl)
+      (each_element (operand_at t ty) path (place + 1) js) (operands_fit path (place + 1) js))
       (operand_at t ty (item_path path place) j) (operand_at_fits (item_path path place) j)
 
   -- and of what stands in place of a list
   pub operands_by_fit : (path : List ℕ) (text : Option (List ℕ)) (list : Option (List JsonTree)) → IfOk (operands_by t ty path text list) (λ vs. list_all (operand_fits t ty) (operands_of vs) ≡ true)
   operands_by_fit path (Some s) list =
-      ok_mapped operands.Session (λ vs. list_all (operand_fits t ty) (operands_of vs) ≡ true) (λ _. ⊤) (λ name _. refl) (operand_read path (variable_named s)) (ok_always (operand_read path (variable_named s)))
+      ok_mapped operands.Session (λ vs. list_all (operand_fits t ty) (operands_of vs) ≡ true) (λ _. ⊤) (λ name _. refl)
+      (operand_read path (variable_named s)) (ok_always (operand_read path (variable_named s)))
   operands_by_fit path None list =
       ok_and_then (λ js. mapped operands.List (each_element (operand_at t ty) path 0 js)) (λ vs. list_all (operand_fits t ty) (operands_of vs) ≡ true) (λ _. ⊤)
-      (λ js _. ok_mapped operands.List (λ vs. list_all (operand_fits t ty) (operands_of vs) ≡ true) (λ os. list_all (operand_fits t ty) os ≡ true) (λ os h. h) (each_element (operand_at t ty) path 0 js) (operands_fit path 0 js))
+      (λ js _. ok_mapped operands.List (λ vs. list_all (operand_fits t ty) (operands_of vs) ≡ true)
+      (λ os. list_all (operand_fits t ty) os ≡ true) (λ os h. h) (each_element (operand_at t ty) path 0 js) (operands_fit path 0 js))
       (operand_read path list) (ok_always (operand_read path list))

@@ -62,7 +62,8 @@ both a b h k = rw (h, k) refl
 good_more : (m n : ℕ) (tables : List Table) (d : MetaTree) (t : ℕ) (b : BexpTree) → m ≤ n → Good m tables d t b → Good n tables d t b
 good_more m n tables d t b more h = record { is = h.is; tracked = h.tracked; shallow = omega (arith, h.shallow) }
 
-good_first : (m k n : ℕ) (tables : List Table) (d : MetaTree) (t : ℕ) (b : BexpTree) (bs : List BexpTree) → m ≤ n → k ≤ n → Good m tables d t b → AllGood k tables d t bs → AllGood n tables d t (b ∷ bs)
+good_first : (m k n : ℕ) (tables : List Table) (d : MetaTree) (t : ℕ) (b : BexpTree) (bs : List BexpTree) → m ≤ n → k ≤ n
+    → Good m tables d t b → AllGood k tables d t bs → AllGood n tables d t (b ∷ bs)
 good_first m k n tables d t b bs p q h hs = record { are = both _ _ h.is hs.are; tracked = both _ _ h.tracked hs.tracked; shallow = omega (arith, h.shallow, hs.shallow) }
 
 none_good : (n : ℕ) (tables : List Table) (d : MetaTree) (t : ℕ) → AllGood n tables d t []
@@ -80,7 +81,8 @@ conjunction_good n tables d t (b ∷ []) h = record { is = only (is_filter b (sc
 conjunction_good n tables d t (b ∷ e ∷ bs) h = record { is = h.are; tracked = h.tracked; shallow = omega (arith, h.shallow) }
 
 -- a test of a column that is there
-tested : (holds : Ty → Bool) (tables : List Table) (d : MetaTree) (t c : ℕ) (ty : Ty) → column_ty (schema_of tables d) t c ≡ Some ty → holds ty ≡ true → of_type holds (column_ty (schema_of tables d) t c) ≡ true
+tested : (holds : Ty → Bool) (tables : List Table) (d : MetaTree) (t c : ℕ) (ty : Ty) → column_ty (schema_of tables d) t c ≡ Some ty
+    → holds ty ≡ true → of_type holds (column_ty (schema_of tables d) t c) ≡ true
 tested holds tables d t c ty here h = ap (of_type holds) here ∙ h
 
 -- a test of many operands takes as many as there are
@@ -109,7 +111,8 @@ module _ (tables : List Table) (d : MetaTree) (t c : ℕ) (ty : Ty) (here : colu
       (operands_by o.test ty path (str_in j) (array_in j)) (operands_by_fit o.test ty is_of path (str_in j) (array_in j))
 
 -- a condition of a column that is there
-condition_good : (tables : List Table) (d : MetaTree) (t c : ℕ) (ty : Ty) → column_ty (schema_of tables d) t c ≡ Some ty → (path : List ℕ) (operator : Option Operator) (j : JsonTree) → IfOk (condition_due c ty path operator j) (Good 1 tables d t)
+condition_good : (tables : List Table) (d : MetaTree) (t c : ℕ) (ty : Ty) → column_ty (schema_of tables d) t c ≡ Some ty
+    → (path : List ℕ) (operator : Option Operator) (j : JsonTree) → IfOk (condition_due c ty path operator j) (Good 1 tables d t)
 condition_good tables d t c ty here path None j = tt
 condition_good tables d t c ty here path (Some o) j = by (applies o.test ty) refl
   where
@@ -126,21 +129,34 @@ compared_good : (tables : List Table) (d : MetaTree) (t c : ℕ) (op : Op) (path
 unfolding compared_due
 compared_good tables d t c op path j =
     let x = table (schema_of tables d) t in
-    ok_and_then (λ name. and_then (λ e. cond (can_pair (type_of (slice_get x.columns c)) (type_of (slice_get x.columns e))) (Ok (two_columns c op e)) (Err (BadOperand path))) (ok_or (column_named x name) (UnknownColumn path))) (Good 1 tables d t) (λ _. ⊤)
+    ok_and_then
+    (λ name. and_then
+    (λ e. cond (can_pair (type_of (slice_get x.columns c)) (type_of (slice_get x.columns e))) (Ok (two_columns c op e))
+    (Err (BadOperand path)))
+    (ok_or (column_named x name) (UnknownColumn path)))
+    (Good 1 tables d t) (λ _. ⊤)
     (λ name _. ok_and_then (λ e. cond (can_pair (type_of (slice_get x.columns c)) (type_of (slice_get x.columns e))) (Ok (two_columns c op e)) (Err (BadOperand path))) (Good 1 tables d t) (λ _. ⊤)
     (λ e _. by e (can_pair (type_of (slice_get x.columns c)) (type_of (slice_get x.columns e))) refl)
     (ok_or (column_named x name) (UnknownColumn path)) (ok_always (ok_or (column_named x name) (UnknownColumn path))))
     (ok_or (str_in j) (Shape path)) (ok_always (ok_or (str_in j) (Shape path)))
   where
-    pairs : (e : ℕ) → can_pair (column_ty (schema_of tables d) t c) (column_ty (schema_of tables d) t e) ≡ can_pair (type_of (slice_get (table (schema_of tables d) t).columns c)) (type_of (slice_get (table (schema_of tables d) t).columns e))
+    pairs : (e : ℕ)
+        → can_pair (column_ty (schema_of tables d) t c) (column_ty (schema_of tables d) t e)
+        ≡ can_pair (type_of (slice_get (table (schema_of tables d) t).columns c))
+        (type_of (slice_get (table (schema_of tables d) t).columns e))
     pairs e = rw (type_by (slice_get (table (schema_of tables d) t).columns c), type_by (slice_get (table (schema_of tables d) t).columns e)) refl
 
-    by : (e : ℕ) (b : Bool) → can_pair (type_of (slice_get (table (schema_of tables d) t).columns c)) (type_of (slice_get (table (schema_of tables d) t).columns e)) ≡ b → IfOk (cond b (Ok (two_columns c op e)) (Err (BadOperand path))) (Good 1 tables d t)
+    by : (e : ℕ) (b : Bool)
+        → can_pair (type_of (slice_get (table (schema_of tables d) t).columns c))
+        (type_of (slice_get (table (schema_of tables d) t).columns e))
+        ≡ b
+        → IfOk (cond b (Ok (two_columns c op e)) (Err (BadOperand path))) (Good 1 tables d t)
     by e true is = record { is = pairs e ∙ is; tracked = refl; shallow = omega arith }
     by e false is = tt
 
 -- the condition that a member of an object of operators writes
-written_on_good : (tables : List Table) (d : MetaTree) (t c : ℕ) (ty : Ty) → column_ty (schema_of tables d) t c ≡ Some ty → (name path : List ℕ) (j : JsonTree) → IfOk (written_on (table (schema_of tables d) t) c ty name path j) (Good 1 tables d t)
+written_on_good : (tables : List Table) (d : MetaTree) (t c : ℕ) (ty : Ty) → column_ty (schema_of tables d) t c ≡ Some ty
+    → (name path : List ℕ) (j : JsonTree) → IfOk (written_on (table (schema_of tables d) t) c ty name path j) (Good 1 tables d t)
 written_on_good tables d t c ty here name path j = by (column_operator_named name)
   where
     by : (o : Option Op) → IfOk (named_due (table (schema_of tables d) t) c ty name path j o) (Good 1 tables d t)
@@ -148,19 +164,25 @@ written_on_good tables d t c ty here name path j = by (column_operator_named nam
     by None = condition_good tables d t c ty here path (operator_named name) j
 
 -- a value that a column is to equal
-equals_good : (tables : List Table) (d : MetaTree) (t c : ℕ) (ty : Ty) → column_ty (schema_of tables d) t c ≡ Some ty → (path : List ℕ) (j : JsonTree) → IfOk (single_due c ty (operator (Compare Eq) false) path j) (Good 1 tables d t)
+equals_good : (tables : List Table) (d : MetaTree) (t c : ℕ) (ty : Ty) → column_ty (schema_of tables d) t c ≡ Some ty
+    → (path : List ℕ) (j : JsonTree) → IfOk (single_due c ty (operator (Compare Eq) false) path j) (Good 1 tables d t)
 equals_good tables d t c ty here path j = tested_good tables d t c ty here (operator (Compare Eq) false) refl path j One refl
 
 -- the conditions of members that are each read as a good one
-each_good : (tables : List Table) (d : MetaTree) (t : ℕ) (read : List ℕ → List ℕ → JsonTree → Result BexpTree FilterRefusal) → ((name path : List ℕ) (j : JsonTree) → IfOk (read name path j) (Good 1 tables d t)) → (path : List ℕ) (ms : List (List ℕ × JsonTree)) → IfOk (each_member read path ms) (AllGood 1 tables d t)
+each_good : (tables : List Table) (d : MetaTree) (t : ℕ) (read : List ℕ → List ℕ → JsonTree → Result BexpTree FilterRefusal)
+    → ((name path : List ℕ) (j : JsonTree) → IfOk (read name path j) (Good 1 tables d t)) → (path : List ℕ) (ms : List (List ℕ × JsonTree))
+    → IfOk (each_member read path ms) (AllGood 1 tables d t)
 each_good tables d t read good path [] = none_good 1 tables d t
 each_good tables d t read good path (m ∷ ms) =
     ok_and_then (λ b. mapped (λ bs. b ∷ bs) (each_member read path ms)) (AllGood 1 tables d t) (Good 1 tables d t)
-    (λ b h. ok_mapped (λ bs. b ∷ bs) (AllGood 1 tables d t) (AllGood 1 tables d t) (λ bs hs. good_first 1 1 1 tables d t b bs (omega arith) (omega arith) h hs) (each_member read path ms) (each_good tables d t read good path ms))
+    (λ b h. ok_mapped (λ bs. b ∷ bs) (AllGood 1 tables d t) (AllGood 1 tables d t)
+    (λ bs hs. good_first 1 1 1 tables d t b bs (omega arith) (omega arith) h hs) (each_member read path ms)
+    (each_good tables d t read good path ms))
     (read m.0 (member_path path m.0) m.1) (good m.0 (member_path path m.0) m.1)
 
 -- the conditions on a column that is there
-column_good : (tables : List Table) (d : MetaTree) (t c : ℕ) (ty : Ty) → column_ty (schema_of tables d) t c ≡ Some ty → (path : List ℕ) (j : JsonTree) → IfOk (column_due (table (schema_of tables d) t) c ty path j) (Good (suc (2 * nesting j)) tables d t)
+column_good : (tables : List Table) (d : MetaTree) (t c : ℕ) (ty : Ty) → column_ty (schema_of tables d) t c ≡ Some ty
+    → (path : List ℕ) (j : JsonTree) → IfOk (column_due (table (schema_of tables d) t) c ty path j) (Good (suc (2 * nesting j)) tables d t)
 column_good tables d t c ty here path (obj ms) =
     ok_mapped conjunction (Good (suc (2 * nesting (obj ms))) tables d t) (AllGood 1 tables d t)
     (λ bs h. good_more 2 (suc (2 * nesting (obj ms))) tables d t (conjunction bs) (omega arith) (conjunction_good 1 tables d t bs h))
@@ -171,10 +193,13 @@ column_good tables d t c ty here path (bool b) = equals_good tables d t c ty her
 column_good tables d t c ty here path (int n) = equals_good tables d t c ty here path (int n)
 column_good tables d t c ty here path (str x) = equals_good tables d t c ty here path (str x)
 column_good tables d t c ty here path (arr js) =
-    ok_weaker (single_due c ty (operator (Compare Eq) false) path (arr js)) (Good 1 tables d t) (Good (suc (2 * nesting (arr js))) tables d t) (λ b h. good_more 1 (suc (2 * nesting (arr js))) tables d t b (omega arith) h) (equals_good tables d t c ty here path (arr js))
+    ok_weaker (single_due c ty (operator (Compare Eq) false) path (arr js)) (Good 1 tables d t)
+    (Good (suc (2 * nesting (arr js))) tables d t) (λ b h. good_more 1 (suc (2 * nesting (arr js))) tables d t b (omega arith) h)
+    (equals_good tables d t c ty here path (arr js))
 
 -- the type of a column that is there
-type_there : (tables : List Table) (d : MetaTree) (t c : ℕ) → is_some (slice_get (table (schema_of tables d) t).columns c) ≡ true → column_ty (schema_of tables d) t c ≡ Some (column (schema_of tables d) t c).ty
+type_there : (tables : List Table) (d : MetaTree) (t c : ℕ) → is_some (slice_get (table (schema_of tables d) t).columns c) ≡ true
+    → column_ty (schema_of tables d) t c ≡ Some (column (schema_of tables d) t c).ty
 type_there tables d t c h = by (slice_get (table (schema_of tables d) t).columns c) refl h
   where
     by : (o : Option ColumnOf) → slice_get (table (schema_of tables d) t).columns c ≡ o → is_some o ≡ true → column_ty (schema_of tables d) t c ≡ Some (column (schema_of tables d) t c).ty
@@ -182,19 +207,26 @@ type_there tables d t c h = by (slice_get (table (schema_of tables d) t).columns
     by (Some x) e k = ap (option_map (λ y. y.ty)) e ∙ ap (λ y. Some y.ty) (sym (get_or_from_slice_get (table (schema_of tables d) t).columns c x no_column e))
 
 -- a member whose value is good, as what it names
-member_good : (filter : ℕ → Result BexpTree FilterRefusal) (list : Result (List BexpTree) FilterRefusal) (exists : Result BexpTree FilterRefusal) (j : JsonTree) (tables : List Table) (d : MetaTree) (t : ℕ) (path : List ℕ) → ((u : ℕ) → IfOk (filter u) (Good (2 * nesting j) tables d u)) → IfOk list (AllGood (2 * nesting j) tables d t) → IfOk exists (Good (suc (2 * nesting j)) tables d t) → (n : Option Named) → IsThere (table (schema_of tables d) t) n → IfOk (member_due filter list exists j tables d t path n) (Good (suc (2 * nesting j)) tables d t)
+member_good : (filter : ℕ → Result BexpTree FilterRefusal) (list : Result (List BexpTree) FilterRefusal)
+    (exists : Result BexpTree FilterRefusal) (j : JsonTree) (tables : List Table) (d : MetaTree) (t : ℕ) (path : List ℕ)
+    → ((u : ℕ) → IfOk (filter u) (Good (2 * nesting j) tables d u)) → IfOk list (AllGood (2 * nesting j) tables d t)
+    → IfOk exists (Good (suc (2 * nesting j)) tables d t) → (n : Option Named) → IsThere (table (schema_of tables d) t) n
+    → IfOk (member_due filter list exists j tables d t path n) (Good (suc (2 * nesting j)) tables d t)
 member_good filter list exists j tables d t path h hs he None there = tt
 member_good filter list exists j tables d t path h hs he (Some And) there =
-    ok_mapped (λ bs. and_of (bexps_of bs)) (Good (suc (2 * nesting j)) tables d t) (AllGood (2 * nesting j) tables d t) (λ bs k. record { is = k.are; tracked = k.tracked; shallow = omega (arith, k.shallow) }) list hs
+    ok_mapped (λ bs. and_of (bexps_of bs)) (Good (suc (2 * nesting j)) tables d t) (AllGood (2 * nesting j) tables d t)
+    (λ bs k. record { is = k.are; tracked = k.tracked; shallow = omega (arith, k.shallow) }) list hs
 member_good filter list exists j tables d t path h hs he (Some Or) there =
-    ok_mapped (λ bs. or_of (bexps_of bs)) (Good (suc (2 * nesting j)) tables d t) (AllGood (2 * nesting j) tables d t) (λ bs k. record { is = k.are; tracked = k.tracked; shallow = omega (arith, k.shallow) }) list hs
+    ok_mapped (λ bs. or_of (bexps_of bs)) (Good (suc (2 * nesting j)) tables d t) (AllGood (2 * nesting j) tables d t)
+    (λ bs k. record { is = k.are; tracked = k.tracked; shallow = omega (arith, k.shallow) }) list hs
 member_good filter list exists j tables d t path h hs he (Some Not) there =
     ok_mapped not_of (Good (suc (2 * nesting j)) tables d t) (Good (2 * nesting j) tables d t) (λ b k. record { is = k.is; tracked = k.tracked; shallow = omega (arith, k.shallow) }) (filter t) (h t)
 member_good filter list exists j tables d t path h hs he (Some Exists) there = he
 member_good filter list exists j tables d t path h hs he (Some (Column c)) there = column_good tables d t c (column (schema_of tables d) t c).ty (type_there tables d t c there) path j
 member_good filter list exists j tables d t path h hs he (Some (Relationship r)) there =
     let remote : ℕ = (rel (schema_of tables d) t r).remote in
-    ok_mapped (through r) (Good (suc (2 * nesting j)) tables d t) (Good (2 * nesting j) tables d remote) (λ b k. record { is = both _ _ there k.is; tracked = k.tracked; shallow = omega (arith, k.shallow) }) (filter remote) (h remote)
+    ok_mapped (through r) (Good (suc (2 * nesting j)) tables d t) (Good (2 * nesting j) tables d remote)
+    (λ b k. record { is = both _ _ there k.is; tracked = k.tracked; shallow = omega (arith, k.shallow) }) (filter remote) (h remote)
 
 if_either : {A E : Type 0} (b : Bool) (x y : Result A E) (P : A → Type 0) → IfOk x P → IfOk y P → IfOk (cond b x y) P
 if_either true x y P h k = h
@@ -225,7 +257,8 @@ mutual
       (elements_good js tables d t path 0)
   filters_good (obj ms) tables d t path = tt
 
-  elements_good : (js : ElementTrees) (tables : List Table) (d : MetaTree) (t : ℕ) (path : List ℕ) (place : ℕ) → IfOk (elements_due js tables d t path place) (AllGood (2 * nesting_of_elements js) tables d t)
+  elements_good : (js : ElementTrees) (tables : List Table) (d : MetaTree) (t : ℕ) (path : List ℕ) (place : ℕ)
+      → IfOk (elements_due js tables d t path place) (AllGood (2 * nesting_of_elements js) tables d t)
   elements_good no_element tables d t path place = none_good 0 tables d t
   elements_good (element j js) tables d t path place =
       let n : ℕ = 2 * nesting_of_elements (element j js) in
@@ -245,7 +278,9 @@ mutual
       (λ bs hs. good_first (suc (2 * nesting j)) (suc (2 * nesting_of_members ms)) n tables d t b bs (omega arith) (omega arith) h hs)
       (members_due ms tables d t path) (members_good ms tables d t path))
       (written tables d t here name j)
-      (member_good (λ remote. filter_due j tables d remote here) (filters_due j tables d t here) (exists_due j tables d here) j tables d t here (λ u. filter_good j tables d u here) (filters_good j tables d t here) (exists_good j tables d t here) (named (table (schema_of tables d) t) name) (named_there (table (schema_of tables d) t) name))
+      (member_good (λ remote. filter_due j tables d remote here) (filters_due j tables d t here) (exists_due j tables d here) j tables d t
+      here (λ u. filter_good j tables d u here) (filters_good j tables d t here) (exists_good j tables d t here)
+      (named (table (schema_of tables d) t) name) (named_there (table (schema_of tables d) t) name))
 
   exists_good : (j : JsonTree) (tables : List Table) (d : MetaTree) (t : ℕ) (path : List ℕ) → IfOk (exists_due j tables d path) (Good (suc (2 * nesting j)) tables d t)
   exists_good null tables d t path = tt
@@ -267,4 +302,5 @@ mutual
       let n : ℕ = 2 * nesting_of_members (member name j ms) in
       if_either (bytes_eq name (codes "_where")) (filter_due j tables d t here) (where_due ms tables d t here) (Good n tables d t)
       (ok_weaker (filter_due j tables d t here) (Good (2 * nesting j) tables d t) (Good n tables d t) (λ b g. good_more (2 * nesting j) n tables d t b (omega arith) g) (filter_good j tables d t here))
-      (ok_weaker (where_due ms tables d t here) (Good (2 * nesting_of_members ms) tables d t) (Good n tables d t) (λ b g. good_more (2 * nesting_of_members ms) n tables d t b (omega arith) g) (where_good ms tables d t here))
+      (ok_weaker (where_due ms tables d t here) (Good (2 * nesting_of_members ms) tables d t) (Good n tables d t)
+      (λ b g. good_more (2 * nesting_of_members ms) n tables d t b (omega arith) g) (where_good ms tables d t here))

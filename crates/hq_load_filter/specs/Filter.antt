@@ -18,7 +18,9 @@ use Rattle.hq_load_filter.specs.Named.{named}
 
 -- The expression of a member at a path, by what it names: `filter` is its value read as a filter over a table, `list` its
 -- value read as a list of filters over table t, and `exists` read as that of `_exists`. UnknownColumn where it names nothing.
-abbrev pub member_due : (filter : ℕ → Result BexpTree FilterRefusal) (list : Result (List BexpTree) FilterRefusal) (exists : Result BexpTree FilterRefusal) → JsonTree → List Table → MetaTree → (t : ℕ) (path : List ℕ) → Option Named → Result BexpTree FilterRefusal
+abbrev pub member_due : (filter : ℕ → Result BexpTree FilterRefusal) (list : Result (List BexpTree) FilterRefusal)
+    (exists : Result BexpTree FilterRefusal)
+    → JsonTree → List Table → MetaTree → (t : ℕ) (path : List ℕ) → Option Named → Result BexpTree FilterRefusal
 member_due filter list exists j tables m t path None = Err (UnknownColumn path)
 member_due filter list exists j tables m t path (Some And) = mapped (λ bs. and_of (bexps_of bs)) list
 member_due filter list exists j tables m t path (Some Or) = mapped (λ bs. or_of (bexps_of bs)) list

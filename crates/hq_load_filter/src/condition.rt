@@ -181,7 +181,8 @@ fn named_condition(
     name: &str,
     json: &Json,
 ) -> Result<Bexp, FilterRefusal>
-    ensures { let s = scope_schema scope.now in Gives bexp_view FilterRefusal.Memory (named_due (table s t) col (column s t col).ty name.now path.now (json_view json.now) (column_operator_named name.now)) result }
+    ensures { let s = scope_schema scope.now in Gives bexp_view FilterRefusal.Memory
+        (named_due (table s t) col (column s t col).ty name.now path.now (json_view json.now) (column_operator_named name.now)) result }
 {
     match Op::of_columns(name) {
         Some(op) => compared(alloc, scope, t, col, op, path, json),
@@ -205,7 +206,10 @@ fn conditions(
     path: &Txt,
     members: &[Member],
 ) -> Result<BexpList, FilterRefusal>
-    ensures { Gives (λ v. map bexp_view v.items) FilterRefusal.Memory (each_member (written_on (table (scope_schema scope.now) t) col (column (scope_schema scope.now) t col).ty) path.now (map member_view members.now)) result }
+    ensures { Gives (λ v. map bexp_view v.items) FilterRefusal.Memory
+        (each_member (written_on (table (scope_schema scope.now) t) col (column (scope_schema scope.now) t col).ty) path.now
+        (map member_view members.now))
+        result }
 {
     let mut conditions = Vec::new(alloc);
     for member in members {

@@ -81,7 +81,10 @@ fn element_bexps(
     path: &Txt,
     elements: &JsonList,
 ) -> Result<BexpList, FilterRefusal>
-    ensures { Gives (λ v. map bexp_view v.items) FilterRefusal.Memory (elements_due (elements_of (map json_view elements.now.items)) scope.now.catalog.now.tables (meta_view scope.now.meta.now) t path.now 0) result }
+    ensures { Gives (λ v. map bexp_view v.items) FilterRefusal.Memory
+        (elements_due (elements_of (map json_view elements.now.items)) scope.now.catalog.now.tables (meta_view scope.now.meta.now) t
+        path.now 0)
+        result }
 {
     let mut bexps = Vec::new(alloc);
     for (place, json) in elements.iter().enumerate() {
@@ -100,7 +103,10 @@ fn member_bexps(
     path: &Txt,
     members: &Members,
 ) -> Result<BexpList, FilterRefusal>
-    ensures { Gives (λ v. map bexp_view v.items) FilterRefusal.Memory (members_due (members_of (map member_view members.now.items)) scope.now.catalog.now.tables (meta_view scope.now.meta.now) t path.now) result }
+    ensures { Gives (λ v. map bexp_view v.items) FilterRefusal.Memory
+        (members_due (members_of (map member_view members.now.items)) scope.now.catalog.now.tables (meta_view scope.now.meta.now) t
+        path.now)
+        result }
 {
     let mut bexps = Vec::new(alloc);
     for member in members {

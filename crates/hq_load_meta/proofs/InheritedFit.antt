@@ -104,7 +104,8 @@ inherited_at-Entered entries before path j =
     let here = at path field.RoleName in
     let behind = at path field.RoleSet in
     ok_and_then (λ i. and_then (λ u. and_then (λ v. and_then (λ w. Ok i) (new_role before here i.role)) (own_roles entries path i)) (plain_names path i)) (λ i. given j ≡ Some i.role) P
-    (λ i named. ok_and_then (λ u. and_then (λ v. and_then (λ w. Ok i) (new_role before here i.role)) (own_roles entries path i)) (λ u. (not (is_admin_name i.role) ≡ true) × (list_all (λ r. not (is_admin_name r)) i.set ≡ true)) P
+    (λ i named. ok_and_then (λ u. and_then (λ v. and_then (λ w. Ok i) (new_role before here i.role)) (own_roles entries path i))
+    (λ u. (not (is_admin_name i.role) ≡ true) × (list_all (λ r. not (is_admin_name r)) i.set ≡ true)) P
     (λ u f. ok_and_then (λ v. and_then (λ w. Ok i) (new_role before here i.role)) (λ v. (not (is_empty i.set) ≡ true) × (list_all (λ r. not (is_entered entries r)) i.set ≡ true)) P
     (λ v g. ok_and_then (λ w. Ok i) (λ w. list_any (λ k. bytes_eq k.role i.role) before ≡ false) P
     (λ w new. (record { named = named; plain = f.0; none_admin = f.1; some = has_some i.set g.0; own = g.1 }, new))
@@ -130,7 +131,9 @@ inherited_due-Read entries =
     (λ is h. record { differ = h.0; beside = subst (AllZip (Entered entries) entries) (sym h.1.are) h.1.beside })
     (ok_both all Differ (Behind (Entered entries) [] entries)
     (each_after-keeps Differ (inherited_at entries)
-    (λ before p j differ. ok_weaker (inherited_at entries before p j) (λ i. Entered entries j i × New before i) (λ i. Differ (before ++ i ∷ [])) (λ i h. push_differ (λ i k. bytes_eq i.role k.role) before i h.1 differ) (inherited_at-Entered entries before p j))
+    (λ before p j differ. ok_weaker (inherited_at entries before p j) (λ i. Entered entries j i × New before i)
+    (λ i. Differ (before ++ i ∷ [])) (λ i h. push_differ (λ i k. bytes_eq i.role k.role) before i h.1 differ)
+    (inherited_at-Entered entries before p j))
     path 0 [] entries refl)
     (each_after-Behind (Entered entries) (inherited_at entries)
     (λ before p j. ok_weaker (inherited_at entries before p j) (λ i. Entered entries j i × New before i) (Entered entries j) (λ i h. h.0) (inherited_at-Entered entries before p j))
@@ -155,7 +158,8 @@ neither p q (x ∷ xs) f g =
     let b = and_parts (not (q x)) (list_all (λ x. not (q x)) xs) g in
     and_from (not (p x) && not (q x)) (list_all (λ x. not (p x) && not (q x)) xs) (and_from (not (p x)) (not (q x)) a.0 b.0) (neither p q xs a.1 b.1)
 
-each_fits : (entries : List JsonTree) (whole : List Inherited) → ((name : List ℕ) → is_entered entries name ≡ is_inherited whole name) → (js : List JsonTree) (is : List Inherited) → AllZip (Entered entries) js is → list_all (fits_inherited whole) is ≡ true
+each_fits : (entries : List JsonTree) (whole : List Inherited) → ((name : List ℕ) → is_entered entries name ≡ is_inherited whole name)
+    → (js : List JsonTree) (is : List Inherited) → AllZip (Entered entries) js is → list_all (fits_inherited whole) is ≡ true
 each_fits entries whole same [] [] beside = refl
 each_fits entries whole same [] (i ∷ is) beside = absurd beside
 each_fits entries whole same (j ∷ js) [] beside = absurd beside
@@ -170,5 +174,6 @@ each_fits entries whole same (j ∷ js) (i ∷ is) beside =
 pub inherited_due-fits : (entries : List JsonTree) → IfOk (inherited_due entries) (λ is. are_inherited is ≡ true)
 inherited_due-fits entries =
     ok_weaker (inherited_due entries) (Read entries) (λ is. are_inherited is ≡ true)
-    (λ is h. and_from (all_differ (λ i k. bytes_eq i.role k.role) is) (list_all (fits_inherited is) is) h.differ (each_fits entries is (λ name. entered_same entries name entries is h.beside) entries is h.beside))
+    (λ is h. and_from (all_differ (λ i k. bytes_eq i.role k.role) is) (list_all (fits_inherited is) is) h.differ
+    (each_fits entries is (λ name. entered_same entries name entries is h.beside) entries is h.beside))
     (inherited_due-Read entries)

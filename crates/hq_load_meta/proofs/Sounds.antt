@@ -13,7 +13,8 @@ pub any_seen : {A B : Type 0} (p : B → Bool) (f : A → B) (xs : List A) → l
 any_seen p f [] = refl
 any_seen p f (x ∷ xs) = Prim.cc (any_seen p f xs)
 
-pub sound_more : (tables : List Table) (m : MetaTree) (t : ℕ) (ps : List Perm) (p : Perm) → AllSound tables m t (map perm_view ps) → Sound tables m t (perm_view p) → AllSound tables m t (map perm_view (ps ++ p ∷ []))
+pub sound_more : (tables : List Table) (m : MetaTree) (t : ℕ) (ps : List Perm) (p : Perm) → AllSound tables m t (map perm_view ps)
+    → Sound tables m t (perm_view p) → AllSound tables m t (map perm_view (ps ++ p ∷ []))
 sound_more tables m t [] p all h = (h, tt)
 sound_more tables m t (q ∷ ps) p all h = (all.0, sound_more tables m t ps p all.1 h)
 

@@ -151,7 +151,10 @@ fn filter_at(
     path: &Txt,
     json: &Json,
 ) -> Result<Box<Bexp>, MetaRefusal>
-    ensures due { Gives (λ b. bexp_view b.value) MetaRefusal.Memory (refused (filter_due (json_view json.now) scope.now.catalog.now.tables (meta_view scope.now.meta.now) table (at path.now Field.Filter))) result }
+    ensures due { Gives (λ b. bexp_view b.value) MetaRefusal.Memory
+        (refused
+        (filter_due (json_view json.now) scope.now.catalog.now.tables (meta_view scope.now.meta.now) table (at path.now Field.Filter)))
+        result }
     ensures is { IfOk result (λ b. is_filter (bexp_view b.value) (schema_of scope.now.catalog.now.tables (meta_view scope.now.meta.now)) table ≡ true) }
     ensures tracked { IfOk result (λ b. asks_tracked (meta_view scope.now.meta.now) (bexp_view b.value) ≡ true) }
     ensures shallow { IfOk result (λ b. depth (bexp_view b.value) ≤ 2 * nesting (json_view json.now)) }
@@ -309,8 +312,12 @@ fn all_perms(
     list: &[Json],
 ) -> Result<List<PermList>, MetaRefusal>
     requires { AllByRecursion (λ j. Shallow (json_view j)) list.now }
-    ensures due { Gives (map (map perm_view)) MetaRefusal.Memory (each (perms_at scope.now.catalog.now.tables (meta_view scope.now.meta.now)) path.now (zip tables.now (map json_view list.now))) result }
-    ensures sound { IfOk result (λ all. AllZip (λ e ps. AllSound scope.now.catalog.now.tables (meta_view scope.now.meta.now) e.0 ps) (zip tables.now (map json_view list.now)) (map (map perm_view) all)) }
+    ensures due { Gives (map (map perm_view)) MetaRefusal.Memory
+        (each (perms_at scope.now.catalog.now.tables (meta_view scope.now.meta.now)) path.now (zip tables.now (map json_view list.now)))
+        result }
+    ensures sound { IfOk result
+        (λ all. AllZip (λ e ps. AllSound scope.now.catalog.now.tables (meta_view scope.now.meta.now) e.0 ps)
+        (zip tables.now (map json_view list.now)) (map (map perm_view) all)) }
 {
     let mut all = List::new(alloc);
     for (place, table) in tables.iter().enumerate() {

@@ -82,10 +82,12 @@ keys-put p v zero es none room = absurd (omega (arith, room))
 -- the keys after a look-up
 pub keys-looked : {V : Type 0} → (p cap : ℕ) (es : List (ℕ × V)) → length es ≤ cap
     → keys_of (promoted (nat_eq p) es) ≡ cond (list_any (nat_eq p) (keys_of es)) (touched p cap (keys_of es)) (keys_of es)
-keys-looked p cap es fits = (elim (list_any (nat_eq p) (keys_of es)) as (λ b. list_any (nat_eq p) (keys_of es) ≡ b → keys_of (promoted (nat_eq p) es) ≡ cond b (touched p cap (keys_of es)) (keys_of es)) [
-  | true ↦ λ t. keys-promoted p cap es (any_if_found p es ∙ t) fits
-  | false ↦ λ t. ap keys_of (promoted-absent p es (any_if_found p es ∙ t))
-]) refl
+keys-looked p cap es fits =
+    (elim (list_any (nat_eq p) (keys_of es)) as
+    (λ b. list_any (nat_eq p) (keys_of es) ≡ b → keys_of (promoted (nat_eq p) es) ≡ cond b (touched p cap (keys_of es)) (keys_of es)) [
+      | true ↦ λ t. keys-promoted p cap es (any_if_found p es ∙ t) fits
+      | false ↦ λ t. ap keys_of (promoted-absent p es (any_if_found p es ∙ t))
+    ]) refl
 
 -- whether a look-up finds it
 pub looked : {V X : Type 0} → (f : V → X) (p : ℕ) (es : List (ℕ × V)) (o : Option V) → option_map f o ≡ option_map f (lookup (nat_eq p) es) → is_some o ≡ list_any (nat_eq p) (keys_of es)

@@ -23,7 +23,11 @@ behind h p z n long few = ap (drop (10 + n)) (sym (append_assoc h p z)) ∙ drop
 
 -- a header, a piece and zeros
 parts_back : (h p z : List ℕ) (n : ℕ) → length h ≡ 10 → length p ≡ n → length (h ++ (p ++ z)) ≡ 4096 → list_all (λ b. nat_eq b 0) z ≡ true
-    → cond (nat_eq (length (h ++ (p ++ z))) 4096 && bytes_eq (take 10 (h ++ (p ++ z))) h && list_all (λ b. nat_eq b 0) (drop (10 + n) (h ++ (p ++ z)))) (Some (take n (drop 10 (h ++ (p ++ z))))) None ≡ Some p
+    → cond
+    (nat_eq (length (h ++ (p ++ z))) 4096 && bytes_eq (take 10 (h ++ (p ++ z))) h
+    && list_all (λ b. nat_eq b 0) (drop (10 + n) (h ++ (p ++ z))))
+    (Some (take n (drop 10 (h ++ (p ++ z))))) None
+    ≡ Some p
 parts_back h p z n long few whole free =
     rw (whole, take_at h (p ++ z) 10 long, (bytes_decides h h).1 refl, behind h p z n long few, free, drop_at h (p ++ z) 10 long, take_at p z n few) refl
 

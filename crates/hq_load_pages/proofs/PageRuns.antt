@@ -49,7 +49,12 @@ missed_more zero b first room pages =
 missed_more (suc a) b first room pages =
     let next : suc first + a ≡ first + suc a = omega arith in
     let one : suc a + b ≡ suc (a + b) = omega arith in
-    let rest = missed_more a b (suc first) room (touched first room pages) ∙ ap (λ (at : ℕ). missed_from (suc first) a room (touched first room pages) + missed_from at b room (touched_from (suc first) a room (touched first room pages))) next in
+    let rest =
+    missed_more a b (suc first) room (touched first room pages)
+    ∙ ap
+    (λ (at : ℕ). missed_from (suc first) a room (touched first room pages)
+    + missed_from at b room (touched_from (suc first) a room (touched first room pages)))
+    next in
     let sums : (x y z w : ℕ) → y ≡ z + w → x + y ≡ (x + z) + w = λ x y z w e. omega (arith, e) in
     ap (λ (k : ℕ). missed_from first k room pages) one ∙ sums (misses first pages) _ _ _ rest
 
@@ -57,7 +62,8 @@ missed_more (suc a) b first room pages =
 pub next_touched : (first done room : ℕ) (pages now new : List ℕ) → now ≡ touched_from first done room pages → new ≡ touched (first + done) room now → new ≡ touched_from first (done + 1) room pages
 next_touched first done room pages now new e f = f ∙ ap (touched (first + done) room) e ∙ sym (touched_more done 1 first room pages)
 
-next_missed : (first done room : ℕ) (pages now : List ℕ) → now ≡ touched_from first done room pages → missed_from first (done + 1) room pages ≡ missed_from first done room pages + misses (first + done) now
+next_missed : (first done room : ℕ) (pages now : List ℕ) → now ≡ touched_from first done room pages
+    → missed_from first (done + 1) room pages ≡ missed_from first done room pages + misses (first + done) now
 next_missed first done room pages now e =
     let plain : (x y : ℕ) → x + (y + 0) ≡ x + y = λ x y. omega arith in
     missed_more done 1 first room pages ∙ plain (missed_from first done room pages) (misses (first + done) (touched_from first done room pages))
@@ -69,14 +75,16 @@ next_calls o p q first done room pages now e a b =
     rises_more o p q (missed_from first done room pages) (misses (first + done) now) a b ∙ ap (λ (k : ℕ). option_map (λ c. more c k) o) (sym (next_missed first done room pages now e))
 
 -- a page that was refused: the list is after the pages so far, or after this one too
-pub refused_at : (first done room most : ℕ) (pages now new : List ℕ) → done < most → now ≡ touched_from first done room pages → StaysOrTouched (first + done) room now new → TouchesSome first most room pages new
+pub refused_at : (first done room most : ℕ) (pages now new : List ℕ) → done < most → now ≡ touched_from first done room pages
+    → StaysOrTouched (first + done) room now new → TouchesSome first most room pages new
 refused_at first done room most pages now new few e (inl f) = (done, omega (arith, few), f ∙ e)
 refused_at first done room most pages now new few e (inr f) = (done + 1, omega (arith, few), next_touched first done room pages now new e f)
 
 -- ---- the run of pages
 
 -- the run of pages of which the first has this piece
-run_behind : (dues : List Due) (held : List ℕ) (first left : ℕ) (piece : List ℕ) → 0 < left → due_piece dues held first ≡ Some piece → due_run dues held first left ≡ option_map (λ run. piece ++ run) (due_run dues held (first + 1) (left - 1))
+run_behind : (dues : List Due) (held : List ℕ) (first left : ℕ) (piece : List ℕ) → 0 < left → due_piece dues held first ≡ Some piece
+    → due_run dues held first left ≡ option_map (λ run. piece ++ run) (due_run dues held (first + 1) (left - 1))
 run_behind dues held first zero piece some e = absurd (omega (arith, some))
 run_behind dues held first (suc n) piece some e =
     let next : suc first ≡ first + 1 = omega arith in
@@ -89,7 +97,8 @@ map_behind : (run piece : List ℕ) (o : Option (List ℕ)) → option_map (λ r
 map_behind run piece None = refl
 map_behind run piece (Some rest) = ap Some (sym (append_assoc run piece rest))
 
-pub next_run : (dues : List Due) (told : Option (List ℕ)) (first done count : ℕ) (run new piece : List ℕ) → done < count → new ≡ run ++ piece → WhereTold told (λ held. due_piece dues held (first + done) ≡ Some piece)
+pub next_run : (dues : List Due) (told : Option (List ℕ)) (first done count : ℕ) (run new piece : List ℕ) → done < count
+    → new ≡ run ++ piece → WhereTold told (λ held. due_piece dues held (first + done) ≡ Some piece)
     → WhereTold told (λ held. due_run dues held first count ≡ option_map (λ rest. run ++ rest) (due_run dues held (first + done) (count - done)))
     → WhereTold told (λ held. due_run dues held first count ≡ option_map (λ rest. new ++ rest) (due_run dues held (first + (done + 1)) (count - (done + 1))))
 next_run dues told first done count run new piece lt is_new due so_far held is =
@@ -102,18 +111,22 @@ next_run dues told first done count run new piece lt is_new due so_far held is =
     ∙ ap (λ (k : ℕ). option_map (λ rest. new ++ rest) (due_run dues held (first + (done + 1)) k)) left
 
 -- no page is left
-pub whole_run : (dues : List Due) (told : Option (List ℕ)) (first done count : ℕ) (run : List ℕ) → count ≤ done → WhereTold told (λ held. due_run dues held first count ≡ option_map (λ rest. run ++ rest) (due_run dues held (first + done) (count - done)))
+pub whole_run : (dues : List Due) (told : Option (List ℕ)) (first done count : ℕ) (run : List ℕ) → count ≤ done
+    → WhereTold told
+    (λ held. due_run dues held first count ≡ option_map (λ rest. run ++ rest) (due_run dues held (first + done) (count - done)))
     → WhereTold told (λ held. due_run dues held first count ≡ Some run)
 whole_run dues told first done count run le so_far held is =
     let none : count - done ≡ 0 = omega (arith, le) in
     so_far held is ∙ ap (λ (k : ℕ). option_map (λ rest. run ++ rest) (due_run dues held (first + done) k)) none ∙ ap Some (append-nil run)
 
 -- nothing was read yet
-pub first_run : (dues : List Due) (told : Option (List ℕ)) (first count : ℕ) → WhereTold told (λ held. due_run dues held first count ≡ option_map (λ rest. [] ++ rest) (due_run dues held (first + 0) (count - 0)))
+pub first_run : (dues : List Due) (told : Option (List ℕ)) (first count : ℕ)
+    → WhereTold told (λ held. due_run dues held first count ≡ option_map (λ rest. [] ++ rest) (due_run dues held (first + 0) (count - 0)))
 first_run dues told first count held is =
     let at : first ≡ first + 0 = omega arith in
     let left : count ≡ count - 0 = omega arith in
-    same (due_run dues held first count) ∙ ap (λ (k : ℕ). option_map (λ rest. [] ++ rest) (due_run dues held k count)) at ∙ ap (λ (k : ℕ). option_map (λ rest. [] ++ rest) (due_run dues held (first + 0) k)) left
+    same (due_run dues held first count) ∙ ap (λ (k : ℕ). option_map (λ rest. [] ++ rest) (due_run dues held k count)) at
+    ∙ ap (λ (k : ℕ). option_map (λ rest. [] ++ rest) (due_run dues held (first + 0) k)) left
   where
     same : (o : Option (List ℕ)) → o ≡ option_map (λ (rest : List ℕ). [] ++ rest) o
     same None = refl
@@ -121,7 +134,9 @@ first_run dues told first count held is =
 
 -- a page that is not due
 pub broken_run : (dues : List Due) (told : Option (List ℕ)) (first done count : ℕ) (run : List ℕ) → done < count → WhereTold told (λ held. due_piece dues held (first + done) ≡ None)
-    → WhereTold told (λ held. due_run dues held first count ≡ option_map (λ rest. run ++ rest) (due_run dues held (first + done) (count - done))) → WhereTold told (λ held. due_run dues held first count ≡ None)
+    → WhereTold told
+    (λ held. due_run dues held first count ≡ option_map (λ rest. run ++ rest) (due_run dues held (first + done) (count - done)))
+    → WhereTold told (λ held. due_run dues held first count ≡ None)
 broken_run dues told first done count run lt broken so_far held is =
     so_far held is ∙ ap (option_map (λ rest. run ++ rest)) (none (first + done) (count - done) (omega (arith, lt)) (broken held is))
   where

@@ -35,13 +35,15 @@ all_found f p (y ∷ es) x e h = let both = and_parts (f y) (list_all f es) e in
 ]) refl
 
 -- a look-up leaves all entries
-all_promoted : {V : Type 0} (f : ℕ × V → Bool) (p : ℕ) (es : List (ℕ × V)) (o : Option (ℕ × V)) → lookup_entry (nat_eq p) es ≡ o → list_all f es ≡ true → list_all f (option_map_or (λ e. e ∷ remove_entry (nat_eq p) es) o es) ≡ true
+all_promoted : {V : Type 0} (f : ℕ × V → Bool) (p : ℕ) (es : List (ℕ × V)) (o : Option (ℕ × V)) → lookup_entry (nat_eq p) es ≡ o
+    → list_all f es ≡ true → list_all f (option_map_or (λ e. e ∷ remove_entry (nat_eq p) es) o es) ≡ true
 all_promoted f p es None h e = e
 all_promoted f p es (Some x) h e = and_from (f x) (list_all f (remove_entry (nat_eq p) es)) (all_found f p es x e h) (all_removed f p es e)
 
 -- ---- pieces
 
-pub pieces_promoted : {V : Type 0} (bytes : V → List ℕ) (dues : List Due) (held : List ℕ) (p : ℕ) (es : List (ℕ × V)) → are_pieces bytes dues held es ≡ true → are_pieces bytes dues held (promoted (nat_eq p) es) ≡ true
+pub pieces_promoted : {V : Type 0} (bytes : V → List ℕ) (dues : List Due) (held : List ℕ) (p : ℕ) (es : List (ℕ × V))
+    → are_pieces bytes dues held es ≡ true → are_pieces bytes dues held (promoted (nat_eq p) es) ≡ true
 pieces_promoted bytes dues held p es e = all_promoted (λ x. is_piece (due_piece dues held x.0) (bytes x.1)) p es (lookup_entry (nat_eq p) es) refl e
 
 -- bytes that are a piece
@@ -54,23 +56,28 @@ is_due None b e = cc
 is_due (Some p) b e = let same : p ≡ b = cc in (bytes_decides p b).1 same
 
 -- what a look-up finds is the due piece
-pub found_piece : {V : Type 0} (bytes : V → List ℕ) (dues : List Due) (held : List ℕ) (p : ℕ) (es : List (ℕ × V)) (b : List ℕ) → are_pieces bytes dues held es ≡ true → Some b ≡ option_map bytes (lookup (nat_eq p) es) → due_piece dues held p ≡ Some b
+pub found_piece : {V : Type 0} (bytes : V → List ℕ) (dues : List Due) (held : List ℕ) (p : ℕ) (es : List (ℕ × V)) (b : List ℕ)
+    → are_pieces bytes dues held es ≡ true → Some b ≡ option_map bytes (lookup (nat_eq p) es) → due_piece dues held p ≡ Some b
 found_piece bytes dues held p [] b e h = cc
-found_piece bytes dues held p (x ∷ es) b e h = let both = and_parts (is_piece (due_piece dues held x.0) (bytes x.1)) (are_pieces bytes dues held es) e in (elim (nat_eq p x.0) as (λ c. nat_eq p x.0 ≡ c → due_piece dues held p ≡ Some b) [
-  | true ↦ λ t.
-      let key : p ≡ x.0 = eqb-true p x.0 t in
-      let h' = rw t at h in
-      let same : bytes x.1 ≡ b = cc in
-      ap (due_piece dues held) key ∙ piece_is (due_piece dues held x.0) (bytes x.1) both.0 ∙ ap Some same
-  | false ↦ λ t. found_piece bytes dues held p es b both.1 (rw t at h)
-]) refl
+found_piece bytes dues held p (x ∷ es) b e h =
+    let both = and_parts (is_piece (due_piece dues held x.0) (bytes x.1)) (are_pieces bytes dues held es) e in (elim (nat_eq p x.0) as
+    (λ c. nat_eq p x.0 ≡ c → due_piece dues held p ≡ Some b) [
+      | true ↦ λ t.
+          let key : p ≡ x.0 = eqb-true p x.0 t in
+          let h' = rw t at h in
+          let same : bytes x.1 ≡ b = cc in
+          ap (due_piece dues held) key ∙ piece_is (due_piece dues held x.0) (bytes x.1) both.0 ∙ ap Some same
+      | false ↦ λ t. found_piece bytes dues held p es b both.1 (rw t at h)
+    ]) refl
 
 -- a due piece is put
-pub pieces_put : {V : Type 0} (bytes : V → List ℕ) (dues : List Due) (held : List ℕ) (p : ℕ) (v : V) (cap : ℕ) (es : List (ℕ × V)) → are_pieces bytes dues held es ≡ true → list_any (nat_eq p) (keys_of es) ≡ false → due_piece dues held p ≡ Some (bytes v)
+pub pieces_put : {V : Type 0} (bytes : V → List ℕ) (dues : List Due) (held : List ℕ) (p : ℕ) (v : V) (cap : ℕ) (es : List (ℕ × V))
+    → are_pieces bytes dues held es ≡ true → list_any (nat_eq p) (keys_of es) ≡ false → due_piece dues held p ≡ Some (bytes v)
     → are_pieces bytes dues held (put_entries nat_eq (lru_cache es cap) p v) ≡ true
 pieces_put bytes dues held p v cap es e none due =
     rw (no_entry p es (any_if_found p es ∙ none))
-    (and_from (is_piece (due_piece dues held p) (bytes v)) (are_pieces bytes dues held (take (cap - 1) es)) (is_due (due_piece dues held p) (bytes v) due) (all_take (λ x. is_piece (due_piece dues held x.0) (bytes x.1)) (cap - 1) es e))
+    (and_from (is_piece (due_piece dues held p) (bytes v)) (are_pieces bytes dues held (take (cap - 1) es))
+    (is_due (due_piece dues held p) (bytes v) due) (all_take (λ x. is_piece (due_piece dues held x.0) (bytes x.1)) (cap - 1) es e))
 
 -- the piece of a page, by the due at its place
 pub due_there : (dues : List Due) (held : List ℕ) (page : ℕ) (d : Due) (o : Option (List ℕ)) → page < length dues → piece_of (get_or dues page d) (page_at held page) ≡ o → due_piece dues held page ≡ o
@@ -83,16 +90,24 @@ due_there dues held page d o lt e = ap (option_and_then (λ due. piece_of due (p
 
 -- ---- the same where the disk tells its bytes
 
-pub told_promoted : {V : Type 0} (bytes : V → List ℕ) (dues : List Due) (told : Option (List ℕ)) (p : ℕ) (es new : List (ℕ × V)) → WhereTold told (λ held. are_pieces bytes dues held es ≡ true) → new ≡ promoted (nat_eq p) es → WhereTold told (λ held. are_pieces bytes dues held new ≡ true)
+pub told_promoted : {V : Type 0} (bytes : V → List ℕ) (dues : List Due) (told : Option (List ℕ)) (p : ℕ) (es new : List (ℕ × V))
+    → WhereTold told (λ held. are_pieces bytes dues held es ≡ true) → new ≡ promoted (nat_eq p) es
+    → WhereTold told (λ held. are_pieces bytes dues held new ≡ true)
 told_promoted bytes dues told p es new all e held is = ap (are_pieces bytes dues held) e ∙ pieces_promoted bytes dues held p es (all held is)
 
-pub told_found : {V : Type 0} (bytes : V → List ℕ) (dues : List Due) (told : Option (List ℕ)) (p : ℕ) (es : List (ℕ × V)) (b : List ℕ) → WhereTold told (λ held. are_pieces bytes dues held es ≡ true) → Some b ≡ option_map bytes (lookup (nat_eq p) es) → WhereTold told (λ held. due_piece dues held p ≡ Some b)
+pub told_found : {V : Type 0} (bytes : V → List ℕ) (dues : List Due) (told : Option (List ℕ)) (p : ℕ) (es : List (ℕ × V)) (b : List ℕ)
+    → WhereTold told (λ held. are_pieces bytes dues held es ≡ true) → Some b ≡ option_map bytes (lookup (nat_eq p) es)
+    → WhereTold told (λ held. due_piece dues held p ≡ Some b)
 told_found bytes dues told p es b all e held is = found_piece bytes dues held p es b (all held is) e
 
-pub told_put : {V : Type 0} (bytes : V → List ℕ) (dues : List Due) (told : Option (List ℕ)) (p : ℕ) (v : V) (cap : ℕ) (es new : List (ℕ × V)) → WhereTold told (λ held. are_pieces bytes dues held es ≡ true) → list_any (nat_eq p) (keys_of es) ≡ false
+pub told_put : {V : Type 0} (bytes : V → List ℕ) (dues : List Due) (told : Option (List ℕ)) (p : ℕ) (v : V) (cap : ℕ)
+    (es new : List (ℕ × V))
+    → WhereTold told (λ held. are_pieces bytes dues held es ≡ true) → list_any (nat_eq p) (keys_of es) ≡ false
     → WhereTold told (λ held. due_piece dues held p ≡ Some (bytes v)) → new ≡ put_entries nat_eq (lru_cache es cap) p v → WhereTold told (λ held. are_pieces bytes dues held new ≡ true)
 told_put bytes dues told p v cap es new all none due e held is = ap (are_pieces bytes dues held) e ∙ pieces_put bytes dues held p v cap es (all held is) none (due held is)
 
 -- the piece of a page that was read
-pub told_due : (dues : List Due) (told : Option (List ℕ)) (page : ℕ) (d : Due) (got : List ℕ) (o : Option (List ℕ)) → page < length dues → WhereTold told (λ held. got ≡ page_at held page) → piece_of (get_or dues page d) got ≡ o → WhereTold told (λ held. due_piece dues held page ≡ o)
+pub told_due : (dues : List Due) (told : Option (List ℕ)) (page : ℕ) (d : Due) (got : List ℕ) (o : Option (List ℕ)) → page < length dues
+    → WhereTold told (λ held. got ≡ page_at held page) → piece_of (get_or dues page d) got ≡ o
+    → WhereTold told (λ held. due_piece dues held page ≡ o)
 told_due dues told page d got o lt read e held is = due_there dues held page d o lt (ap (piece_of (get_or dues page d)) (sym (read held is)) ∙ e)

@@ -29,13 +29,16 @@ flat_more : (rows : List Row) (at : ℕ) → at < length rows → flat (drop at 
 flat_more rows at lt = at_drop_more flat rows at [] lt ∙ flat_map-cons (λ (r : List Val). r) (get_or rows at []) (drop (at + 1) rows)
 
 -- one row more is written
-pub next_written : (rows : List Row) (at : ℕ) (out new : List ℕ) → at < length rows → new ≡ out ++ run_of (get_or rows at []) → out ++ run_of (flat (drop at rows)) ≡ run_of (flat rows) → new ++ run_of (flat (drop (at + 1) rows)) ≡ run_of (flat rows)
+pub next_written : (rows : List Row) (at : ℕ) (out new : List ℕ) → at < length rows → new ≡ out ++ run_of (get_or rows at [])
+    → out ++ run_of (flat (drop at rows)) ≡ run_of (flat rows) → new ++ run_of (flat (drop (at + 1) rows)) ≡ run_of (flat rows)
 next_written rows at out new lt is so_far =
     ap (λ (xs : List ℕ). xs ++ run_of (flat (drop (at + 1) rows))) is ∙ append_assoc out (run_of (get_or rows at [])) (run_of (flat (drop (at + 1) rows)))
     ∙ ap (λ (xs : List ℕ). out ++ xs) (sym (flat_map-append cell_bytes (get_or rows at []) (flat (drop (at + 1) rows))))
     ∙ ap (λ (vs : List Val). out ++ run_of vs) (sym (flat_more rows at lt)) ∙ so_far
 
-pub next_back : (rows : List Row) (at : ℕ) → at < length rows → Each ReadsBack (get_or rows at []) → (Each ReadsBack (flat (drop at rows)) → Each ReadsBack (flat rows)) → Each ReadsBack (flat (drop (at + 1) rows)) → Each ReadsBack (flat rows)
+pub next_back : (rows : List Row) (at : ℕ) → at < length rows → Each ReadsBack (get_or rows at [])
+    → (Each ReadsBack (flat (drop at rows)) → Each ReadsBack (flat rows)) → Each ReadsBack (flat (drop (at + 1) rows))
+    → Each ReadsBack (flat rows)
 next_back rows at lt here so_far rest = so_far (subst (Each ReadsBack) (sym (flat_more rows at lt)) (each_both ReadsBack (get_or rows at []) (flat (drop (at + 1) rows)) here rest))
 
 -- no row is left

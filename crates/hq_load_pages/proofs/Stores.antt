@@ -42,13 +42,18 @@ one_item o x y e f = cc
 
 -- ---- what the cache went through
 
-pub touches_here : (runs : List TableRun) (t room : ℕ) (old new : List ℕ) (r : TableRun) → slice_get runs t ≡ Some r → new ≡ touched_from r.first r.pages room old → (run : TableRun) → slice_get runs t ≡ Some run → new ≡ touched_from run.first run.pages room old
+pub touches_here : (runs : List TableRun) (t room : ℕ) (old new : List ℕ) (r : TableRun) → slice_get runs t ≡ Some r
+    → new ≡ touched_from r.first r.pages room old → (run : TableRun) → slice_get runs t ≡ Some run
+    → new ≡ touched_from run.first run.pages room old
 touches_here runs t room old new r is e run there = e ∙ ap (λ x. touched_from x.first x.pages room old) (one_item (slice_get runs t) r run is there)
 
-pub reads_here : (runs : List TableRun) (t room : ℕ) (pages : List ℕ) (old new : Option ℕ) (r : TableRun) → slice_get runs t ≡ Some r → Rises old new (missed_from r.first r.pages room pages) → (run : TableRun) → slice_get runs t ≡ Some run → Rises old new (missed_from run.first run.pages room pages)
+pub reads_here : (runs : List TableRun) (t room : ℕ) (pages : List ℕ) (old new : Option ℕ) (r : TableRun) → slice_get runs t ≡ Some r
+    → Rises old new (missed_from r.first r.pages room pages) → (run : TableRun) → slice_get runs t ≡ Some run
+    → Rises old new (missed_from run.first run.pages room pages)
 reads_here runs t room pages old new r is e run there = e ∙ ap (λ x. option_map (λ c. more c (missed_from x.first x.pages room pages)) old) (one_item (slice_get runs t) r run is there)
 
-pub first_here : (runs : List TableRun) (t room : ℕ) (old new : List ℕ) (r : TableRun) → slice_get runs t ≡ Some r → TouchesSome r.first r.pages room old new → (run : TableRun) → slice_get runs t ≡ Some run → TouchesSome run.first run.pages room old new
+pub first_here : (runs : List TableRun) (t room : ℕ) (old new : List ℕ) (r : TableRun) → slice_get runs t ≡ Some r
+    → TouchesSome r.first r.pages room old new → (run : TableRun) → slice_get runs t ≡ Some run → TouchesSome run.first run.pages room old new
 first_here runs t room old new r is e run there = subst (λ x. TouchesSome x.first x.pages room old new) (one_item (slice_get runs t) r run is there) e
 
 -- ---- how large the run of a table is
@@ -65,15 +70,20 @@ table_few tables (x ∷ some) (suc t) table e lt is = let both = and_parts (is_t
 -- ---- what is read of all tables and of one
 
 -- what is read of all tables has what is read of each
-read_at : (dues : List Due) (held : List ℕ) (ts : List Table) (runs : List TableRun) (all : List (List Row)) (t : ℕ) (table : Table) (run : TableRun) → tables_read dues held ts runs ≡ Some all → t < length ts → slice_get ts t ≡ Some table → slice_get runs t ≡ Some run
+read_at : (dues : List Due) (held : List ℕ) (ts : List Table) (runs : List TableRun) (all : List (List Row)) (t : ℕ) (table : Table)
+    (run : TableRun)
+    → tables_read dues held ts runs ≡ Some all → t < length ts → slice_get ts t ≡ Some table → slice_get runs t ≡ Some run
     → table_read dues held table run ≡ Some (slice_index_or all t [])
 read_at dues held [] runs all t table run e lt is at = absurd (omega (arith, lt))
 read_at dues held (x ∷ ts) [] all t table run e lt is at = cc
 read_at dues held (x ∷ ts) (r ∷ runs) all t table run e lt is at =
     by (table_read dues held x r) (tables_read dues held ts runs) refl refl e (λ rest i f. read_at dues held ts runs rest i table run f) t lt is at
   where
-    by : (o : Option (List Row)) (p : Option (List (List Row))) → table_read dues held x r ≡ o → tables_read dues held ts runs ≡ p → option_and_then (λ rows. option_map (λ all. rows ∷ all) p) o ≡ Some all
-        → ((rest : List (List Row)) (i : ℕ) → tables_read dues held ts runs ≡ Some rest → i < length ts → slice_get ts i ≡ Some table → slice_get runs i ≡ Some run → table_read dues held table run ≡ Some (slice_index_or rest i []))
+    by : (o : Option (List Row)) (p : Option (List (List Row))) → table_read dues held x r ≡ o → tables_read dues held ts runs ≡ p
+        → option_and_then (λ rows. option_map (λ all. rows ∷ all) p) o ≡ Some all
+        →
+        ((rest : List (List Row)) (i : ℕ) → tables_read dues held ts runs ≡ Some rest → i < length ts → slice_get ts i ≡ Some table
+        → slice_get runs i ≡ Some run → table_read dues held table run ≡ Some (slice_index_or rest i []))
         → (t : ℕ) → t < length (x ∷ ts) → slice_get (x ∷ ts) t ≡ Some table → slice_get (r ∷ runs) t ≡ Some run
         → table_read dues held table run ≡ Some (slice_index_or all t [])
     by None p e f g later t lt is at = cc
@@ -82,7 +92,8 @@ read_at dues held (x ∷ ts) (r ∷ runs) all t table run e lt is at =
     by (Some rows) (Some rest) e f g later (suc t) lt is at = let same : rows ∷ rest ≡ all = cc in rw (← same) (later rest t f (omega (arith, lt)) is at)
 
 -- where all tables read as a database, each reads as rows of its own
-reads_at : (dues : List Due) (held : List ℕ) (ts : List Table) (runs : List TableRun) (t : ℕ) (table : Table) (run : TableRun) → reads_database ts (tables_read dues held ts runs) ≡ true → t < length ts → slice_get ts t ≡ Some table → slice_get runs t ≡ Some run
+reads_at : (dues : List Due) (held : List ℕ) (ts : List Table) (runs : List TableRun) (t : ℕ) (table : Table) (run : TableRun)
+    → reads_database ts (tables_read dues held ts runs) ≡ true → t < length ts → slice_get ts t ≡ Some table → slice_get runs t ≡ Some run
     → reads_rows table (table_read dues held table run) ≡ true
 reads_at dues held ts runs t table run e lt is at = by (tables_read dues held ts runs) refl e
   where
@@ -99,7 +110,8 @@ reads_at dues held ts runs t table run e lt is at = by (tables_read dues held ts
 -- ---- what is known of a store after a pin
 
 -- the rows of one table more
-pub pins_fit : (tables : List Table) (pins : List (Option (List Row))) (t : ℕ) (table : Table) (rows : List Row) → PinsFit tables pins → t < length pins → slice_get tables t ≡ Some table → are_rows table rows ≡ true → PinsFit tables (slice_set pins t (Some rows))
+pub pins_fit : (tables : List Table) (pins : List (Option (List Row))) (t : ℕ) (table : Table) (rows : List Row) → PinsFit tables pins
+    → t < length pins → slice_get tables t ≡ Some table → are_rows table rows ≡ true → PinsFit tables (slice_set pins t (Some rows))
 pins_fit tables pins t table rows fit lt is valid u other others there pin = elim (eqb_tells u t) [
   | inl same ↦ (
       let here : u ≡ t = same.1 in
@@ -112,7 +124,8 @@ pins_fit tables pins t table rows fit lt is valid u other others there pin = eli
 ]
 
 pub pins_of : (told : Option (List ℕ)) (dues : List Due) (tables : List Table) (runs : List TableRun) (pins : List (Option (List Row))) (t : ℕ) (table : Table) (run : TableRun) (rows : List Row)
-    → WhereTold told (λ held. PinsOf (tables_read dues held tables runs) pins) → t < length pins → t < length tables → slice_get tables t ≡ Some table → slice_get runs t ≡ Some run → WhereTold told (λ held. table_read dues held table run ≡ Some rows)
+    → WhereTold told (λ held. PinsOf (tables_read dues held tables runs) pins) → t < length pins → t < length tables
+    → slice_get tables t ≡ Some table → slice_get runs t ≡ Some run → WhereTold told (λ held. table_read dues held table run ≡ Some rows)
     → WhereTold told (λ held. PinsOf (tables_read dues held tables runs) (slice_set pins t (Some rows)))
 pins_of told dues tables runs pins t table run rows old lt inside is at read held is_held all u others e pin = elim (eqb_tells u t) [
   | inl same ↦ (
@@ -131,9 +144,13 @@ pub moved : {P : List ℕ → Type 0} (old new : Option (List ℕ)) → new ≡ 
 moved old new e h held is = h held (sym e ∙ is)
 
 -- over a told disk each table reads
-pub never_broken : (told : Option (List ℕ)) (dues : List Due) (tables : List Table) (runs : List TableRun) (t : ℕ) (table : Table) (run : TableRun) (n : ℕ) → WhereTold told (λ held. reads_database tables (tables_read dues held tables runs) ≡ true) → t < length tables → slice_get tables t ≡ Some table → slice_get runs t ≡ Some run
+pub never_broken : (told : Option (List ℕ)) (dues : List Due) (tables : List Table) (runs : List TableRun) (t : ℕ) (table : Table)
+    (run : TableRun) (n : ℕ)
+    → WhereTold told (λ held. reads_database tables (tables_read dues held tables runs) ≡ true) → t < length tables
+    → slice_get tables t ≡ Some table → slice_get runs t ≡ Some run
     → WhereTold told (λ held. reads_rows table (table_read dues held table run) ≡ false) → WhereTold told (λ _. n ≡ 0)
-never_broken told dues tables runs t table run n readable lt is at broken held is_held = absurd (false≢true (sym (broken held is_held) ∙ reads_at dues held tables runs t table run (readable held is_held) lt is at))
+never_broken told dues tables runs t table run n readable lt is at broken held is_held =
+    absurd (false≢true (sym (broken held is_held) ∙ reads_at dues held tables runs t table run (readable held is_held) lt is at))
 
 -- ---- the run of one table
 

@@ -10,7 +10,8 @@ use Rattle.hq_load_pages.specs.Held.{WhereTold}
 use Rattle.hq_load_pages.specs.PinTouches.{sum_of}
 
 -- its database is told exactly where the bytes of its disk are
-pub database_told : (tables : List Table) (told : Option (List ℕ)) (read : List ℕ → Option (List (List Row))) → WhereTold told (λ held. reads_database tables (read held) ≡ true) → is_some told ≡ is_some (option_and_then read told)
+pub database_told : (tables : List Table) (told : Option (List ℕ)) (read : List ℕ → Option (List (List Row)))
+    → WhereTold told (λ held. reads_database tables (read held) ≡ true) → is_some told ≡ is_some (option_and_then read told)
 database_told tables None read h = refl
 database_told tables (Some held) read h = by (read held) (h held refl)
   where
@@ -19,7 +20,8 @@ database_told tables (Some held) read h = by (read held) (h held refl)
     by (Some all) e = refl
 
 -- these rows are its database, where the bytes were told before they were written
-pub rows_told : (old new : Option (List ℕ)) (read : List ℕ → Option (List (List Row))) (all : List (List Row)) → is_some new ≡ is_some old → WhereTold new (λ held. read held ≡ Some all) → option_and_then read new ≡ option_map (λ _. all) old
+pub rows_told : (old new : Option (List ℕ)) (read : List ℕ → Option (List (List Row))) (all : List (List Row)) → is_some new ≡ is_some old
+    → WhereTold new (λ held. read held ≡ Some all) → option_and_then read new ≡ option_map (λ _. all) old
 rows_told None None read all same is = refl
 rows_told None (Some new) read all same is = absurd (cc)
 rows_told (Some old) None read all same is = absurd (cc)

@@ -38,7 +38,11 @@ get_stays (y ∷ xs) ys (suc i) x e = get_stays xs ys i x e
 page_whole : (d : Due) (page x : List ℕ) → piece_of d page ≡ Some x → length page ≡ 4096
 page_whole d page x e = by (nat_eq (length page) 4096) refl e
   where
-    by : (b : Bool) → nat_eq (length page) 4096 ≡ b → cond (b && bytes_eq (take 10 page) (header_of d) && list_all (λ b. nat_eq b 0) (drop (10 + d.length) page)) (Some (take d.length (drop 10 page))) None ≡ Some x → length page ≡ 4096
+    by : (b : Bool) → nat_eq (length page) 4096 ≡ b
+        → cond (b && bytes_eq (take 10 page) (header_of d) && list_all (λ b. nat_eq b 0) (drop (10 + d.length) page))
+        (Some (take d.length (drop 10 page))) None
+        ≡ Some x
+        → length page ≡ 4096
     by true is e = eqb-true (length page) 4096 is
     by false is e = cc
 
@@ -151,7 +155,8 @@ grows_one (Some b) (Some h) page at size holds untold told place held is =
     (b, refl, same ∙ holds ∙ ap₂ (λ (xs ys : List ℕ). xs ++ page ++ ys) front rest ∙ append-nil (b ++ page))
 
 -- a page
-pub wrote_one : (old new : Option (List ℕ)) (dues : List Due) (d : Due) (page piece : List ℕ) → Grows old new page → length page ≡ 4096 → piece_of d page ≡ Some piece → WhereTold new (Wrote old dues (dues ++ d ∷ []) piece)
+pub wrote_one : (old new : Option (List ℕ)) (dues : List Due) (d : Due) (page piece : List ℕ) → Grows old new page → length page ≡ 4096
+    → piece_of d page ≡ Some piece → WhereTold new (Wrote old dues (dues ++ d ∷ []) piece)
 wrote_one old new dues d page piece grows whole back held is =
     let grown = grows held is in
     let one : due_piece (d ∷ []) page 0 ≡ Some piece = ap (piece_of d) (take_all 4096 page (omega (arith, whole))) ∙ back in
@@ -178,7 +183,8 @@ grows_more old mid new x y first next held is =
     (m.0, m.1, n.2 ∙ ap (λ (xs : List ℕ). xs ++ y) m.2 ∙ append_assoc m.0 x y)
 
 -- the next page of a run
-pub next_pages : (table piece most : ℕ) (done rest front behind whole : List ℕ) → 0 < length rest → length rest ≤ most → front ≡ take 4086 rest → behind ≡ drop 4086 rest → done ++ pages_from table piece most rest ≡ whole
+pub next_pages : (table piece most : ℕ) (done rest front behind whole : List ℕ) → 0 < length rest → length rest ≤ most
+    → front ≡ take 4086 rest → behind ≡ drop 4086 rest → done ++ pages_from table piece most rest ≡ whole
     → (length behind ≤ most - 1) × ((done ++ page_bytes table piece front) ++ pages_from table (piece + 1) (most - 1) behind ≡ whole)
 next_pages table piece most done [] front behind whole some le f b e = absurd (omega (arith, some))
 next_pages table piece zero done (c ∷ rest) front behind whole some le f b e = absurd (omega (arith, le))
@@ -190,7 +196,9 @@ next_pages table piece (suc most) done (c ∷ rest) front behind whole some le f
 
 -- no byte is left of a run
 pub last_pages : (table piece most : ℕ) (done rest whole : List ℕ) → length rest < 1 → done ++ pages_from table piece most rest ≡ whole → done ≡ whole
-last_pages table piece most done rest whole none e = sym (append-nil done) ∙ ap (λ (xs : List ℕ). done ++ xs) (sym (empty most)) ∙ ap (λ (xs : List ℕ). done ++ pages_from table piece most xs) (sym (nothing rest none)) ∙ e
+last_pages table piece most done rest whole none e =
+    sym (append-nil done) ∙ ap (λ (xs : List ℕ). done ++ xs) (sym (empty most))
+    ∙ ap (λ (xs : List ℕ). done ++ pages_from table piece most xs) (sym (nothing rest none)) ∙ e
   where
     nothing : (xs : List ℕ) → length xs < 1 → xs ≡ []
     nothing [] few = refl
@@ -208,7 +216,9 @@ disk_more table (some ∷ all) rows =
     ap (λ (xs : List ℕ). run_pages table (rows_bytes some) ++ xs) (disk_more (suc table) all rows ∙ ap (λ (n : ℕ). disk_pages (suc table) all ++ run_pages n (rows_bytes rows)) e)
     ∙ sym (append_assoc (run_pages table (rows_bytes some)) (disk_pages (suc table) all) (run_pages (table + suc (length all)) (rows_bytes rows)))
 
-pub next_table : (old mid new : Option (List ℕ)) (all : List (List Row)) (i : ℕ) (rows : List Row) → i < length all → rows ≡ get_or all i rows → Grows old mid (disk_pages 0 (take i all)) → Grows mid new (run_pages i (rows_bytes rows)) → Grows old new (disk_pages 0 (take (i + 1) all))
+pub next_table : (old mid new : Option (List ℕ)) (all : List (List Row)) (i : ℕ) (rows : List Row) → i < length all
+    → rows ≡ get_or all i rows → Grows old mid (disk_pages 0 (take i all)) → Grows mid new (run_pages i (rows_bytes rows))
+    → Grows old new (disk_pages 0 (take (i + 1) all))
 next_table old mid new all i rows lt at so_far next =
     let number : 0 + length (take i all) ≡ i = (let l = length-take i all in omega (arith, l, lt)) in
     let pages : disk_pages 0 (take (i + 1) all) ≡ disk_pages 0 (take i all) ++ run_pages i (rows_bytes rows) =
@@ -216,7 +226,8 @@ next_table old mid new all i rows lt at so_far next =
     subst (Grows old new) (sym pages) (grows_more old mid new (disk_pages 0 (take i all)) (run_pages i (rows_bytes rows)) so_far next)
 
 -- the pages of all tables on a disk that was empty
-pub all_pages : (old new : Option (List ℕ)) (all : List (List Row)) (i size : ℕ) → IfSome old (λ held. length held ≡ size) → size ≡ 0 → length all ≤ i → Grows old new (disk_pages 0 (take i all)) → WhereTold new (λ held. held ≡ disk_pages 0 all)
+pub all_pages : (old new : Option (List ℕ)) (all : List (List Row)) (i size : ℕ) → IfSome old (λ held. length held ≡ size) → size ≡ 0
+    → length all ≤ i → Grows old new (disk_pages 0 (take i all)) → WhereTold new (λ held. held ≡ disk_pages 0 all)
 all_pages old new all i size told none le grows held is =
     let g = grows held is in
     g.2 ∙ ap (λ (xs : List ℕ). xs ++ disk_pages 0 (take i all)) (empty old g.0 told g.1) ∙ ap (disk_pages 0) (take_all i all le)
@@ -228,22 +239,27 @@ all_pages old new all i size told none le grows held is =
 
 -- ---- the rows of tables
 
-tables_parts : (o : Option (List Row)) (p : Option (List (List Row))) (x : List (List Row)) → option_and_then (λ rows. option_map (λ all. rows ∷ all) p) o ≡ Some x → (a : List Row) × (b : List (List Row)) × (o ≡ Some a) × (p ≡ Some b) × (a ∷ b ≡ x)
+tables_parts : (o : Option (List Row)) (p : Option (List (List Row))) (x : List (List Row))
+    → option_and_then (λ rows. option_map (λ all. rows ∷ all) p) o ≡ Some x
+    → (a : List Row) × (b : List (List Row)) × (o ≡ Some a) × (p ≡ Some b) × (a ∷ b ≡ x)
 tables_parts None p x e = cc
 tables_parts (Some a) None x e = cc
 tables_parts (Some a) (Some b) x e = (a, b, refl, refl, cc)
 
-tables_whole : (o : Option (List Row)) (p : Option (List (List Row))) (a : List Row) (b : List (List Row)) → o ≡ Some a → p ≡ Some b → option_and_then (λ rows. option_map (λ all. rows ∷ all) p) o ≡ Some (a ∷ b)
+tables_whole : (o : Option (List Row)) (p : Option (List (List Row))) (a : List Row) (b : List (List Row)) → o ≡ Some a → p ≡ Some b
+    → option_and_then (λ rows. option_map (λ all. rows ∷ all) p) o ≡ Some (a ∷ b)
 tables_whole o p a b e f = rw (e, f) refl
 
-table_stays : (dues ds : List Due) (held more : List ℕ) (t : Table) (run : TableRun) (rows : List Row) → table_read dues held t run ≡ Some rows → table_read (dues ++ ds) (held ++ more) t run ≡ Some rows
+table_stays : (dues ds : List Due) (held more : List ℕ) (t : Table) (run : TableRun) (rows : List Row)
+    → table_read dues held t run ≡ Some rows → table_read (dues ++ ds) (held ++ more) t run ≡ Some rows
 table_stays dues ds held more t run rows e = by (due_run dues held run.first run.pages) refl e
   where
     by : (o : Option (List ℕ)) → due_run dues held run.first run.pages ≡ o → option_and_then (rows_of_run t run.rows) o ≡ Some rows → table_read (dues ++ ds) (held ++ more) t run ≡ Some rows
     by None is e = cc
     by (Some bytes) is e = ap (option_and_then (rows_of_run t run.rows)) (run_stays dues ds held more run.first run.pages bytes is) ∙ e
 
-tables_stay : (dues ds : List Due) (held more : List ℕ) (ts : List Table) (runs : List TableRun) (all : List (List Row)) → tables_read dues held ts runs ≡ Some all → tables_read (dues ++ ds) (held ++ more) ts runs ≡ Some all
+tables_stay : (dues ds : List Due) (held more : List ℕ) (ts : List Table) (runs : List TableRun) (all : List (List Row))
+    → tables_read dues held ts runs ≡ Some all → tables_read (dues ++ ds) (held ++ more) ts runs ≡ Some all
 tables_stay dues ds held more [] [] all e = e
 tables_stay dues ds held more [] (r ∷ runs) all e = cc
 tables_stay dues ds held more (t ∷ ts) [] all e = cc
@@ -253,13 +269,19 @@ tables_stay dues ds held more (t ∷ ts) (r ∷ runs) all e =
     (table_stays dues ds held more t r parts.0 parts.2) (tables_stay dues ds held more ts runs parts.1 parts.3) ∙ ap Some parts.4
 
 -- a table more
-tables_more : (dues : List Due) (held : List ℕ) (ts : List Table) (runs : List TableRun) (all : List (List Row)) (t : Table) (run : TableRun) (rows : List Row) → tables_read dues held ts runs ≡ Some all → table_read dues held t run ≡ Some rows → tables_read dues held (ts ++ t ∷ []) (runs ++ run ∷ []) ≡ Some (all ++ rows ∷ [])
-tables_more dues held [] [] all t run rows e f = let none : [] ≡ all = cc in tables_whole (table_read dues held t run) (Some []) rows [] f refl ∙ ap (λ (xs : List (List Row)). Some (xs ++ rows ∷ [])) none
+tables_more : (dues : List Due) (held : List ℕ) (ts : List Table) (runs : List TableRun) (all : List (List Row)) (t : Table)
+    (run : TableRun) (rows : List Row)
+    → tables_read dues held ts runs ≡ Some all → table_read dues held t run ≡ Some rows
+    → tables_read dues held (ts ++ t ∷ []) (runs ++ run ∷ []) ≡ Some (all ++ rows ∷ [])
+tables_more dues held [] [] all t run rows e f =
+    let none : [] ≡ all = cc in tables_whole (table_read dues held t run) (Some []) rows [] f refl
+    ∙ ap (λ (xs : List (List Row)). Some (xs ++ rows ∷ [])) none
 tables_more dues held [] (r ∷ runs) all t run rows e f = cc
 tables_more dues held (u ∷ ts) [] all t run rows e f = cc
 tables_more dues held (u ∷ ts) (r ∷ runs) all t run rows e f =
     let parts = tables_parts (table_read dues held u r) (tables_read dues held ts runs) all e in
-    tables_whole (table_read dues held u r) (tables_read dues held (ts ++ t ∷ []) (runs ++ run ∷ [])) parts.0 (parts.1 ++ rows ∷ []) parts.2 (tables_more dues held ts runs parts.1 t run rows parts.3 f)
+    tables_whole (table_read dues held u r) (tables_read dues held (ts ++ t ∷ []) (runs ++ run ∷ [])) parts.0 (parts.1 ++ rows ∷ []) parts.2
+    (tables_more dues held ts runs parts.1 t run rows parts.3 f)
     ∙ ap (λ (xs : List (List Row)). Some (xs ++ rows ∷ [])) parts.4
 
 -- the rows of a table were written
@@ -279,7 +301,8 @@ stores_more old new dues more bytes runs ts all t run rows stored wrote first pa
     (rw (w.5, w.4) long, rw (w.5, w.4) whole)
 
 -- the run of a table more is among the pages
-pub inside_more : (pages most : ℕ) (runs : List TableRun) (run : TableRun) → are_inside pages runs ≡ true → pages ≤ most → run.first + run.pages ≤ most → run.rows < 2 ^ 31 → are_inside most (runs ++ run ∷ []) ≡ true
+pub inside_more : (pages most : ℕ) (runs : List TableRun) (run : TableRun) → are_inside pages runs ≡ true → pages ≤ most
+    → run.first + run.pages ≤ most → run.rows < 2 ^ 31 → are_inside most (runs ++ run ∷ []) ≡ true
 inside_more pages most [] run e le inside few = rw (le-leb (run.first + run.pages) most inside, lt-ltb run.rows (2 ^ 31) few) refl
 inside_more pages most (r ∷ runs) run e le inside few =
     let both = and_parts (nat_le (r.first + r.pages) pages && nat_lt r.rows (2 ^ 31)) (are_inside pages runs) e in
@@ -288,7 +311,8 @@ inside_more pages most (r ∷ runs) run e le inside few =
     rw (le-leb (r.first + r.pages) most (omega (arith, here, le)), parts.1) (inside_more pages most runs run both.1 le inside few)
 
 -- each table of a database has rows that are valid for it
-pub rows_at : (ts : List Table) (all : List (List Row)) (t : ℕ) (table : Table) (rows : List Row) → is_database ts all ≡ true → t < length ts → table ≡ get_or ts t table → rows ≡ get_or all t rows → are_rows table rows ≡ true
+pub rows_at : (ts : List Table) (all : List (List Row)) (t : ℕ) (table : Table) (rows : List Row) → is_database ts all ≡ true
+    → t < length ts → table ≡ get_or ts t table → rows ≡ get_or all t rows → are_rows table rows ≡ true
 rows_at [] all t table rows e lt is at = absurd (omega (arith, lt))
 rows_at (x ∷ ts) [] t table rows e lt is at = cc
 rows_at (x ∷ ts) (y ∷ all) zero table rows e lt is at = let both = and_parts (are_rows x y) (is_database ts all) e in rw (is, at) both.0
@@ -308,14 +332,17 @@ stores_none (Some h) size told none held is = let same : h ≡ held = cc in (rw 
 
 -- one table more of those of a database
 pub stores_next : (old new : Option (List ℕ)) (dues more : List Due) (runs : List TableRun) (ts : List Table) (all : List (List Row)) (i : ℕ) (t : Table) (run : TableRun) (rows : List Row)
-    → i < length ts → i < length all → t ≡ get_or ts i t → rows ≡ get_or all i rows → WhereTold old (Stores dues runs (take i ts) (take i all)) → WroteRows old new dues more t run rows → run.first ≡ length dues → run.first + run.pages ≡ length more
+    → i < length ts → i < length all → t ≡ get_or ts i t → rows ≡ get_or all i rows
+    → WhereTold old (Stores dues runs (take i ts) (take i all)) → WroteRows old new dues more t run rows → run.first ≡ length dues
+    → run.first + run.pages ≡ length more
     → WhereTold new (Stores more (runs ++ run ∷ []) (take (i + 1) ts) (take (i + 1) all))
 stores_next old new dues more runs ts all i t run rows lt below is at stored wrote first pages =
     rw (take_next ts i t lt is, take_next all i rows below at)
     (stores_more old new dues more wrote.0 runs (take i ts) (take i all) t run rows stored wrote.1 first pages wrote.2)
 
 -- all tables are stored
-pub stores_all : (told : Option (List ℕ)) (dues : List Due) (runs : List TableRun) (ts : List Table) (all : List (List Row)) (i : ℕ) → length ts ≤ i → length all ≤ i → WhereTold told (Stores dues runs (take i ts) (take i all)) → WhereTold told (Stores dues runs ts all)
+pub stores_all : (told : Option (List ℕ)) (dues : List Due) (runs : List TableRun) (ts : List Table) (all : List (List Row)) (i : ℕ)
+    → length ts ≤ i → length all ≤ i → WhereTold told (Stores dues runs (take i ts) (take i all)) → WhereTold told (Stores dues runs ts all)
 stores_all told dues runs ts all i le below stored held is =
     ((stored held is).0, sym (ap (λ some. tables_read dues held some runs) (take_all i ts le)) ∙ (stored held is).1 ∙ ap Some (take_all i all below))
 

@@ -62,6 +62,7 @@ no_rows t rows (Some r) tells e = rw (keys_repeat t rows r tells) (and_false (na
     and_false false = refl
 
 -- few rows that fit, of which no key is repeated, are rows of the table
-pub valid_rows : (t : Table) (rows : List Row) (found : Option Repeat) → TellsRepeat t.key rows found → is_some found ≡ false → length rows < 2 ^ 31 → list_all (row_fits t.columns) rows ≡ true → are_rows t rows ≡ true
+pub valid_rows : (t : Table) (rows : List Row) (found : Option Repeat) → TellsRepeat t.key rows found → is_some found ≡ false
+    → length rows < 2 ^ 31 → list_all (row_fits t.columns) rows ≡ true → are_rows t rows ≡ true
 valid_rows t rows None tells e few fit = rw (lt-ltb (length rows) (2 ^ 31) few, fit) (keys_differ t rows tells)
 valid_rows t rows (Some r) tells e few fit = cc

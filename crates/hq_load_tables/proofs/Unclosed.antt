@@ -13,13 +13,15 @@ closed_given false last due r is h = h
 closed_given true last due r is h = absurd cc
 
 -- one that does has no rows
-pub unclosed_rows : (inside : Bool) (last : ℕ) (due : Result (List Row) LoadRefusal) (rows : List Row) → inside ≡ true → Gives (λ rows. rows) Memory due (Ok rows) → Gives (λ rows. rows) Memory (closed_due inside last due) (Err (Unclosed last))
+pub unclosed_rows : (inside : Bool) (last : ℕ) (due : Result (List Row) LoadRefusal) (rows : List Row) → inside ≡ true
+    → Gives (λ rows. rows) Memory due (Ok rows) → Gives (λ rows. rows) Memory (closed_due inside last due) (Err (Unclosed last))
 unclosed_rows false last due rows is h = absurd cc
 unclosed_rows true last (Ok x) rows is h = inr refl
 unclosed_rows true last (Err e) rows is h = absurd cc
 
 -- and its first refusal is that of its last record, or one before it
-pub unclosed_refused : (inside : Bool) (last : ℕ) (due : Result (List Row) LoadRefusal) (e : LoadRefusal) → inside ≡ true → Gives (λ rows. rows) Memory due (Err e) → Gives (λ rows. rows) Memory (closed_due inside last due) (Err (unclosed_unless last e))
+pub unclosed_refused : (inside : Bool) (last : ℕ) (due : Result (List Row) LoadRefusal) (e : LoadRefusal) → inside ≡ true
+    → Gives (λ rows. rows) Memory due (Err e) → Gives (λ rows. rows) Memory (closed_due inside last due) (Err (unclosed_unless last e))
 unclosed_refused false last due e is h = absurd cc
 unclosed_refused true last due e is h = elim h [
   | inl memory ↦ inl (ap (unclosed_unless last) memory)

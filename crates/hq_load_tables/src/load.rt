@@ -74,7 +74,9 @@ fn rows_of(alloc: Global, reader: &mut FileReader<'_>, table: &Table) -> Result<
 // What is due of a file whose records give these rows or this refusal: where it ends inside a quoted field, its last record is refused.
 fn closed(alloc: Global, bytes: &[u8], read: Result<Rows, LoadRefusal>) -> Result<Rows, LoadRefusal>
     requires small { length bytes.now ≤ LARGEST_FILE }
-    ensures due { (due : Outcome (Items Row) Refusal) → Gives (λ rows. rows) refusal.Memory due read → Gives (λ rows. rows) refusal.Memory (closed_due (ends_inside bytes.now) (length (records default_config (strip_bom bytes.now))) due) result }
+    ensures due { (due : Outcome (Items Row) Refusal) → Gives (λ rows. rows) refusal.Memory due read
+        → Gives (λ rows. rows) refusal.Memory
+        (closed_due (ends_inside bytes.now) (length (records default_config (strip_bom bytes.now))) due) result }
     ensures rows { IfOk result (λ rows. read ≡ Ok rows) }
 {
     if !ends_inside(bytes) {

@@ -136,7 +136,9 @@ module _ (tables : List Table) (m : MetaTree) (fit : fits tables m ≡ true) whe
       λ c short. let within : c < length (table s k.table).columns = omega arith in ap (λ o. is_some (option_map (λ d. d.ty) o)) (slice_get-get_or (table s k.table).columns c no_column within) in
       let filters : Each (λ q. IsEntryFilter s k.table q.filter) k.perms =
       each_weaken (λ q. fits_perm s m k.table q ≡ true) (λ q. IsEntryFilter s k.table q.filter) (perm_low k.table) k.perms (each_of (fits_perm s m k.table) k.perms perms.1) in
-      let low = permission_holds (IsEntryFilter s k.table) (IsLowFilter s k.table) (λ b f. (f.0, let small = f.1 in omega arith)) (refl, omega arith) (joined_low s k.table) k filters role m.inherited p e in
+      let low =
+      permission_holds (IsEntryFilter s k.table) (IsLowFilter s k.table) (λ b f. (f.0, let small = f.1 in omega arith))
+      (refl, omega arith) (joined_low s k.table) k filters role m.inherited p e in
       let within = permission_within role m.inherited k p e in
       record {
         there = there;

@@ -105,7 +105,9 @@ found_own P k name q [] h f = cc
 found_own P k name q (p ∷ ps) h f =
     let here : option_and_then (told_permission k) (Some p) ≡ Some q → P q.filter × (q.masks ≡ []) =
     λ g.
-    let kept = columns_keep (record { columns = []; filter = p.filter; limit = p.limit; aggregations = p.aggregations; masks = [] }) q (filter (λ c. list_any (λ d. d == c) p.cols) (named_columns k)) g in
+    let kept =
+    columns_keep (record { columns = []; filter = p.filter; limit = p.limit; aggregations = p.aggregations; masks = [] }) q
+    (filter (λ c. list_any (λ d. d == c) p.cols) (named_columns k)) g in
     (subst P kept.0 h.0, sym kept.1) in
     let go : (b : Bool) → option_and_then (told_permission k) (cond b (Some p) (find (λ r. bytes_eq r.role name) ps)) ≡ Some q → P q.filter × (q.masks ≡ []) =
     elim [ true ↦ here | false ↦ λ g. found_own P k name q ps h.1 g ] in
@@ -161,10 +163,13 @@ permission_binds role m s vars t p e h = by (tracked_table m t) e
     by : (o : Option TrackedTree) → option_and_then (permission_in role m.inherited) o ≡ Some p → is_ok (bound_masks p.masks s vars t) ≡ true
     by None f = cc
     by (Some k) f =
-        permission_by (MasksFollow s vars t) k (λ q is bare b. none q.masks bare) (λ name q is b. none q.masks (own_of (λ x. Unit {0}) k name q (each_all (λ r. Unit {0}) (λ r. tt) k.perms) is).1) (of_set k) role m.inherited p f h
+        permission_by (MasksFollow s vars t) k (λ q is bare b. none q.masks bare)
+        (λ name q is b. none q.masks (own_of (λ x. Unit {0}) k name q (each_all (λ r. Unit {0}) (λ r. tt) k.perms) is).1) (of_set k) role
+        m.inherited p f h
 
 -- what holds of the filters of all entries, and more weakly of several joined, holds so of a role's filter and masks
-module _ (P Q : BexpTree → Type 0) (weak : (b : BexpTree) → P b → Q b) (of_admin : Q always) (joined : (bs : List BexpTree) → Each P bs → Q (either bs)) (k : TrackedTree) (all : Each (λ p. P p.filter) k.perms) where
+module _ (P Q : BexpTree → Type 0) (weak : (b : BexpTree) → P b → Q b) (of_admin : Q always)
+    (joined : (bs : List BexpTree) → Each P bs → Q (either bs)) (k : TrackedTree) (all : Each (λ p. P p.filter) k.perms) where
   abbrev Holds : Permission → Type 0
   Holds q = Q q.filter × Each (λ m. Q m.shown) q.masks
 

@@ -21,7 +21,8 @@ mapped_itself None = refl
 mapped_itself (Some xs) = refl
 
 -- a reader that has read nothing
-pub reads_first : (r : Reader) (es : List (List ℕ)) (bytes : List ℕ) → r ≡ record { place = Before; element = []; gap = []; elements = es } → es ≡ [] → read_on r bytes ≡ elements_from Before [] [] bytes
+pub reads_first : (r : Reader) (es : List (List ℕ)) (bytes : List ℕ) → r ≡ record { place = Before; element = []; gap = []; elements = es }
+    → es ≡ [] → read_on r bytes ≡ elements_from Before [] [] bytes
 reads_first r es bytes is none =
     ap (λ (x : Reader). read_on x bytes) is ∙ ap (λ (xs : List (List ℕ)). option_map (λ ys. xs ++ ys) (elements_from Before [] [] bytes)) none ∙ mapped_itself (elements_from Before [] [] bytes)
 
@@ -74,6 +75,7 @@ module _ (t : Test) (ty : Ty) (xs : List (List ℕ)) (i : ℕ) (x : List ℕ) (d
       ∙ parted
 
 -- all values
-pub values_all : (t : Test) (ty : Ty) (xs : List (List ℕ)) (i : ℕ) (done : List Operand) (whole : Option (List Operand)) → length xs ≤ i → values_behind done (element_values t ty (drop i xs)) ≡ whole → Some done ≡ whole
+pub values_all : (t : Test) (ty : Ty) (xs : List (List ℕ)) (i : ℕ) (done : List Operand) (whole : Option (List Operand)) → length xs ≤ i
+    → values_behind done (element_values t ty (drop i xs)) ≡ whole → Some done ≡ whole
 values_all t ty xs i done whole over so_far =
     ap Some (sym (append-nil done)) ∙ sym (at_drop_all (λ ys. values_behind done (element_values t ty ys)) xs i over) ∙ so_far

@@ -28,7 +28,9 @@ one_name f n k ns =
 limit_where : (p : Permission) (test : ℕ → Bool) (cs : List ℕ) → limit_under (with_columns p (filter test cs)) ≡ cond (list_any test cs) (Some p.limit) None
 limit_where p test [] = refl
 limit_where p test (c ∷ cs) =
-    let by : (b : Bool) → limit_under (with_columns p (cond b (c ∷ filter test cs) (filter test cs))) ≡ cond (b || list_any test cs) (Some p.limit) None = elim [ true ↦ refl | false ↦ limit_where p test cs ] in
+    let by : (b : Bool)
+    → limit_under (with_columns p (cond b (c ∷ filter test cs) (filter test cs))) ≡ cond (b || list_any test cs) (Some p.limit) None =
+    elim [ true ↦ refl | false ↦ limit_where p test cs ] in
     by (test c)
 
 limit_with : (p : Permission) (cs : List ℕ) → limit_under (with_columns p cs) ≡ cond (list_any (λ c. true) cs) (Some p.limit) None

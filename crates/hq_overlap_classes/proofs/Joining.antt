@@ -76,7 +76,8 @@ rows_push (row ∷ rows) n (suc c) s h =
       | inr new ↦ let e : length (row ∷ rows) ≡ suc c = omega (arith, new.0) in inr (e, new.1)
     ])
 
-pub members_push : (sets : List SetTree) (old new : List (Vec ℕ Global)) (n : ℕ) → length (graph_view old) ≡ n → graph_view new ≡ graph_view old ++ ((n ∷ []) ∷ []) → AreMembers sets old → AreMembers sets new
+pub members_push : (sets : List SetTree) (old new : List (Vec ℕ Global)) (n : ℕ) → length (graph_view old) ≡ n
+    → graph_view new ≡ graph_view old ++ ((n ∷ []) ∷ []) → AreMembers sets old → AreMembers sets new
 members_push sets old new n long grown are c s h =
     (elim (rows_push (graph_view old) n c s (subst (λ (rows : List (List ℕ)). Contains (get_or rows c []) s) grown h)) [
       | inl before ↦ are c s before
@@ -131,7 +132,8 @@ classes_set sets classes s c joined are t d h =
     ])
 
 -- the members of a class that are given to another one
-pub members_moved : (sets : List SetTree) (old more new : List (Vec ℕ Global)) (into : ℕ) (moved : List ℕ) → ((c s : ℕ) → Contains (row_at more c) s → Contains (row_at old c) s ⊎ ((into ≡ c) × Contains moved s))
+pub members_moved : (sets : List SetTree) (old more new : List (Vec ℕ Global)) (into : ℕ) (moved : List ℕ)
+    → ((c s : ℕ) → Contains (row_at more c) s → Contains (row_at old c) s ⊎ ((into ≡ c) × Contains moved s))
     → ((c s : ℕ) → Contains (row_at new c) s → Contains (row_at more c) s) → All (λ s. Joined sets into s) moved → AreMembers sets old → AreMembers sets new
 members_moved sets old more new into moved grown cleared joined are c s h =
     (elim (grown c s (cleared c s h)) [
@@ -139,7 +141,8 @@ members_moved sets old more new into moved grown cleared joined are c s h =
       | inr now ↦ subst (λ (m : ℕ). Joined sets m s) now.0 (All-contains (λ t. Joined sets into t) moved s joined now.1)
     ])
 
-pub members_joined : (sets : List SetTree) (p : Partition) (from into : ℕ) (moved : List ℕ) → IsPartition sets p → Joined sets into from → moved ≡ row_at p.members.items from → All (λ s. Joined sets into s) moved
+pub members_joined : (sets : List SetTree) (p : Partition) (from into : ℕ) (moved : List ℕ) → IsPartition sets p → Joined sets into from
+    → moved ≡ row_at p.members.items from → All (λ s. Joined sets into s) moved
 members_joined sets p from into moved sound joined e =
     all_from (λ s. Joined sets into s) moved (λ s h. class.through joined (sound.members from s (subst (λ (xs : List ℕ). Contains xs s) e h)))
 
@@ -164,7 +167,8 @@ pub stands_in_class : (sets : List SetTree) (p : Partition) (c s : ℕ) (a : Fie
 stands_in_class sets p c s a sound e h = record { set = s; joined = subst (λ (m : ℕ). Joined sets m s) (sym e) (joined_class sets p.classes.items s sound.classes); stands = h }
 
 -- the classes of two sets of one class
-pub classes_joined : (sets : List SetTree) (p : Partition) (left right first second : ℕ) → IsPartition sets p → first ≡ class_of p left → second ≡ class_of p right → Joined sets left right → Joined sets first second
+pub classes_joined : (sets : List SetTree) (p : Partition) (left right first second : ℕ) → IsPartition sets p → first ≡ class_of p left
+    → second ≡ class_of p right → Joined sets left right → Joined sets first second
 classes_joined sets p left right first second sound e f joined =
     let one : Joined sets first left = subst (λ (m : ℕ). Joined sets m left) (sym e) (joined_class sets p.classes.items left sound.classes) in
     let two : Joined sets second right = subst (λ (m : ℕ). Joined sets m right) (sym f) (joined_class sets p.classes.items right sound.classes) in

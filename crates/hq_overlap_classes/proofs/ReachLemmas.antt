@@ -39,7 +39,9 @@ module _ (sets : List SetTree) (rows : List (Vec ℕ Global)) (starts : List ℕ
             edges x.0 q (filter_from _ (row_at rows x.0) q x.2) (within_fault n x.0 x.1)
       ])
 
-pub all_reached : (sets : List SetTree) (rows : List (Vec ℕ Global)) (starts list found : List ℕ) → list ≡ found → ((q : ℕ) → has found q ≡ has (reached (graph_view rows) starts) q) → AreEdges sets rows → All (AtFault sets) starts → All (AtFault sets) list
+pub all_reached : (sets : List SetTree) (rows : List (Vec ℕ Global)) (starts list found : List ℕ) → list ≡ found
+    → ((q : ℕ) → has found q ≡ has (reached (graph_view rows) starts) q) → AreEdges sets rows → All (AtFault sets) starts
+    → All (AtFault sets) list
 all_reached sets rows starts list found e same edges are =
     all_from (AtFault sets) list (λ q h. within_fault sets rows starts edges are (length (graph_view rows)) q
     (has_member (reached (graph_view rows) starts) q (sym (same q) ∙ member_has found q (subst (λ (xs : List ℕ). Contains xs q) e h))))

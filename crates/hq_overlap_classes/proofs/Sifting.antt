@@ -263,7 +263,8 @@ module _ (s : SchemaTree) (d : Disputes) (k : ℕ) (x y : Set) where
   abbrev nothing : SetTree
   nothing = record { fields = []; spreads = [] }
 
-  view_by : (b : Bool) → is_concerned d its_class ≡ b → y.entries.items ≡ cond b (filter (keeps_entry d its_class) x.entries.items) [] → y.spreads.items ≡ cond b x.spreads.items [] → set_view s y ≡ cond {A = SetTree} b whole nothing
+  view_by : (b : Bool) → is_concerned d its_class ≡ b → y.entries.items ≡ cond b (filter (keeps_entry d its_class) x.entries.items) []
+      → y.spreads.items ≡ cond b x.spreads.items [] → set_view s y ≡ cond {A = SetTree} b whole nothing
   view_by true e f g =
       set_by (map (entry_view s) y.entries.items) whole.fields y.spreads.items x.spreads.items
       (ap (map (entry_view s)) f ∙ filter_map (entry_view s) (keeps (noted_in s d) its_class) x.entries.items) g
@@ -328,7 +329,9 @@ smaller_by : (b : Bool) (n : Noted) (s : ℕ) (x : SetTree) → n.concerned (n.c
 smaller_by true n s x e = rw e (filter_short (keeps n (n.class s)) x.fields, omega arith)
 smaller_by false n s x e = rw e (omega arith, omega arith)
 
-smaller_in : (n : Noted) (s : ℕ) (o : Option SetTree) → (length (fields_in (option_map (kept_set n s) o)) ≤ length (fields_in o)) × (length (spreads_in (option_map (kept_set n s) o)) ≤ length (spreads_in o))
+smaller_in : (n : Noted) (s : ℕ) (o : Option SetTree)
+    → (length (fields_in (option_map (kept_set n s) o)) ≤ length (fields_in o))
+    × (length (spreads_in (option_map (kept_set n s) o)) ≤ length (spreads_in o))
 smaller_in n s None = (omega arith, omega arith)
 smaller_in n s (Some x) = smaller_by (n.concerned (n.class s)) n s x refl
 
@@ -341,7 +344,9 @@ kept_smaller n sets kept are_kept s =
     omega (arith, fields, spreads, low.0, low.1)
 
 -- all sets are kept
-pub all_kept : (n : Noted) (a : Arena) (items : List Set) (count : ℕ) → length a.sets.items ≤ count → length items ≡ count → IsKeptBelow n (arena_view a) (map (set_in a) items) count → count ≤ length a.sets.items → AreKept n (arena_view a) (map (set_in a) items)
+pub all_kept : (n : Noted) (a : Arena) (items : List Set) (count : ℕ) → length a.sets.items ≤ count → length items ≡ count
+    → IsKeptBelow n (arena_view a) (map (set_in a) items) count → count ≤ length a.sets.items
+    → AreKept n (arena_view a) (map (set_in a) items)
 all_kept n a items count all long each inside =
     let sets = length-map a.sets.items (set_in a) in
     let kept = length-map items (set_in a) in

@@ -34,7 +34,10 @@ impl<'a> Disputes<'a> {
         entry: &Entry<'_>,
     ) -> Result<bool, Memory>
         requires { key ≡ key_number self.now (entry_view (schema_view schema.now) entry.now).key }
-        ensures { IfOk result (λ settled. settled ≡ true → IsSettled (noted_in (schema_view schema.now) self.now) class (entry_view (schema_view schema.now) first.now) (entry_view (schema_view schema.now) entry.now)) }
+        ensures { IfOk result
+            (λ settled. settled ≡ true
+            → IsSettled (noted_in (schema_view schema.now) self.now) class (entry_view (schema_view schema.now) first.now)
+            (entry_view (schema_view schema.now) entry.now)) }
     {
         let Some(label) = self.label(class, key, entry.parent) else {
             return Ok(false);
@@ -192,7 +195,10 @@ impl<'a> Disputes<'a> {
 
     // What is kept of a set.
     fn kept_set(&self, alloc: Global, number: usize, set: &Set<'a>) -> Result<Set<'a>, Memory>
-        ensures entries { IfOk result (λ kept. kept.entries.items ≡ if is_concerned self.now (class_of self.now.classes.sets number) then filter (keeps_entry self.now (class_of self.now.classes.sets number)) set.now.entries.items else []) }
+        ensures entries { IfOk result
+            (λ kept. kept.entries.items
+            ≡ if is_concerned self.now (class_of self.now.classes.sets number) then filter
+            (keeps_entry self.now (class_of self.now.classes.sets number)) set.now.entries.items else []) }
         ensures spreads { IfOk result (λ kept. kept.spreads.items ≡ if is_concerned self.now (class_of self.now.classes.sets number) then set.now.spreads.items else []) }
     {
         let class = self.classes.class_of(number);

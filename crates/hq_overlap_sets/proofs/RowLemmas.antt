@@ -45,7 +45,8 @@ set_rows (r ∷ rows) (suc at) v (suc c) s h =
       | inr new ↦ inr (ap suc new.0, new.1)
     ])
 
-set_kept : (rows : List (Vec ℕ Global)) (at : ℕ) (v : Vec ℕ Global) → ((s : ℕ) → Contains (row_at rows at) s → Contains v.items s) → (c s : ℕ) → Contains (row_at rows c) s → Contains (row_at (set rows at v) c) s
+set_kept : (rows : List (Vec ℕ Global)) (at : ℕ) (v : Vec ℕ Global) → ((s : ℕ) → Contains (row_at rows at) s → Contains v.items s)
+    → (c s : ℕ) → Contains (row_at rows c) s → Contains (row_at (set rows at v) c) s
 set_kept [] at v f c s h = h
 set_kept (r ∷ rows) zero v f zero s h = f s h
 set_kept (r ∷ rows) zero v f (suc c) s h = h

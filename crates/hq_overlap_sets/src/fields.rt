@@ -51,7 +51,10 @@ pub fn are_alike(
     label: &Entry<'_>,
     entry: &Entry<'_>,
 ) -> Result<bool, Memory>
-    ensures { IfOk result (λ alike. alike ≡ true → ((entry_view (schema_view schema.now) first.now).shape ≡ (entry_view (schema_view schema.now) entry.now).shape) × SameLabel (entry_view (schema_view schema.now) label.now).label (entry_view (schema_view schema.now) entry.now).label) }
+    ensures { IfOk result
+        (λ alike. alike ≡ true
+        → ((entry_view (schema_view schema.now) first.now).shape ≡ (entry_view (schema_view schema.now) entry.now).shape)
+        × SameLabel (entry_view (schema_view schema.now) label.now).label (entry_view (schema_view schema.now) entry.now).label) }
 {
     if !same_shape(schema, &first.def.ty, &entry.def.ty) {
         return Ok(false);

@@ -16,6 +16,8 @@ pub masks_read : (s : Schema) (vars : List Var) (t : ℕ) → ReadsBy (λ (ms : 
 masks_read s vars t m ms =
     let k : Mask = mask_view m in
     let rest : Result (List Mask) BindRefusal = bound_masks (map mask_view ms) s vars t in
-    let by : (r : Result BexpTree BindRefusal) → and_then (λ shown. mapped (λ more. record { column = k.column; shown = shown } ∷ more) rest) r ≡ and_then (λ y. mapped (λ ys. y ∷ ys) rest) (mapped (λ shown. record { column = k.column; shown = shown }) r) =
+    let by : (r : Result BexpTree BindRefusal)
+    → and_then (λ shown. mapped (λ more. record { column = k.column; shown = shown } ∷ more) rest) r
+    ≡ and_then (λ y. mapped (λ ys. y ∷ ys) rest) (mapped (λ shown. record { column = k.column; shown = shown }) r) =
     elim [ Ok b ↦ refl | Err e ↦ refl ] in
     by (bound k.shown s vars t)

@@ -80,7 +80,9 @@ fn within_limits<'a>(
     operation: &Operation,
     fields: CollectedList<'a>,
 ) -> Result<CollectedList<'a>, AskRefusal>
-    ensures due { Gives (λ v. trees_of (map collected_view v.items)) refusal.Memory (within_limits (operation_view operation.now).at (map var_view vars.now) true (trees_of (map collected_view fields.entry.items))) result }
+    ensures due { Gives (λ v. trees_of (map collected_view v.items)) refusal.Memory
+        (within_limits (operation_view operation.now).at (map var_view vars.now) true (trees_of (map collected_view fields.entry.items)))
+        result }
     ensures bounded { IfOk result (λ v. is_bounded (map var_view vars.now) (trees_of (map collected_view v.items)) ≡ true) }
 {
     if is_narrow(&fields) && is_bounded(vars, &fields) {
@@ -136,7 +138,10 @@ fn bound_in(
     fields: &AskFields,
 ) -> Result<BoundList, AskRefusal>
     requires { role.now ≡ role_of session.now.role }
-    ensures { Gives (map bound_view) refusal.Memory (bound_in (meta_view scope.now.meta.now) (scope_schema scope.now) session.now (length scope.now.catalog.now.tables) (fields_of (map keyed_field_view fields.now.items))) result }
+    ensures { Gives (map bound_view) refusal.Memory
+        (bound_in (meta_view scope.now.meta.now) (scope_schema scope.now) session.now (length scope.now.catalog.now.tables)
+        (fields_of (map keyed_field_view fields.now.items)))
+        result }
 {
     match bound_tables(alloc, role, scope, session, fields) {
         Ok(bound) => Ok(bound),
@@ -152,7 +157,10 @@ fn fields_of<'a>(
     scope: Scope<'a>,
     fields: &CollectedList<'_>,
 ) -> Result<AskFields, AskRefusal>
-    ensures { let s = scope_schema scope.entry in Gives (λ v. fields_of (map keyed_field_view v.items)) refusal.Memory (root_due (map var_view vars.now) (schema_view schema.now) s (length scope.entry.catalog.now.tables) (trees_of (map collected_view fields.now.items))) result }
+    ensures { let s = scope_schema scope.entry in Gives (λ v. fields_of (map keyed_field_view v.items)) refusal.Memory
+        (root_due (map var_view vars.now) (schema_view schema.now) s (length scope.entry.catalog.now.tables)
+        (trees_of (map collected_view fields.now.items)))
+        result }
 {
     let root = TableId::new(scope.catalog.tables.len());
     let context = Context {

@@ -50,7 +50,9 @@ regroup : (begin joined comma name value : List ℕ) → (((((begin ++ joined) +
 regroup begin joined comma name value = simp append_assoc
 
 -- one more member
-pub one_more_member : (s : SchemaTree) (n : NodeTree) (fs : List KeyedIntroField) (i : ℕ) (f : KeyedIntroField) (key : List ℕ) (look : IntrospectionTree) (begin now comma named colon after : List ℕ) → i < length fs → f ≡ get_or fs i f → keyed_introspection_view f ≡ (key, look)
+pub one_more_member : (s : SchemaTree) (n : NodeTree) (fs : List KeyedIntroField) (i : ℕ) (f : KeyedIntroField) (key : List ℕ)
+    (look : IntrospectionTree) (begin now comma named colon after : List ℕ)
+    → i < length fs → f ≡ get_or fs i f → keyed_introspection_view f ≡ (key, look)
     → now ≡ begin ++ join_with_byte 44 (member_texts (members (fields_view (take i fs)) s n))
     → comma ≡ now ++ (if i == 0 then [] else 44 ∷ []) → named ≡ comma ++ quoted key → colon ≡ named ++ 58 ∷ [] → after ≡ colon ++ compact (value look s n)
     → after ≡ begin ++ join_with_byte 44 (member_texts (members (fields_view (take (i + 1) fs)) s n))
@@ -75,4 +77,15 @@ pub one_more_object : {A B : Type 0} (json : B → JsonTree) (view : A → B) (x
     → after ≡ begin ++ join_with_byte 44 (element_texts (elements_of (map json (map view (take (i + 1) xs)))))
 one_more_object {A} json view xs i x begin now comma after h is a b e =
     let next = joined_next (λ (y : A). compact (json (view y))) xs i x h in
-    rw (e, b, a, map_twice json view (take i xs), map_twice json view (take (i + 1) xs), element_texts-map (λ y. json (view y)) (take i xs), element_texts-map (λ y. json (view y)) (take (i + 1) xs), next, ← is) (simp append_assoc)
+    rw (
+      e,
+      b,
+      a,
+      map_twice json view (take i xs),
+      map_twice json view (take (i + 1) xs),
+      element_texts-map (λ y. json (view y)) (take i xs),
+      element_texts-map (λ y. json (view y)) (take (i + 1) xs),
+      next,
+      ← is,
+    )
+    (simp append_assoc)

@@ -86,7 +86,8 @@ elements_spelled = refl
 
 -- elements of each type
 values_read :
-    listed_values Among Integer (codes "{-1, \"2\"}") ∷ listed_values Among Boolean (codes "{t,false}") ∷ listed_values Among Text (codes "{t}") ∷ listed_values Among Integer (codes "{2147483648}") ∷ []
+    listed_values Among Integer (codes "{-1, \"2\"}") ∷ listed_values Among Boolean (codes "{t,false}")
+    ∷ listed_values Among Text (codes "{t}") ∷ listed_values Among Integer (codes "{2147483648}") ∷ []
     ≡ Some (val.Int (negsuc 0) ∷ number 2 ∷ []) ∷ Some (val.Bool true ∷ val.Bool false ∷ []) ∷ Some (val.Text (codes "t") ∷ []) ∷ None ∷ []
 unfolding is_utf8 chars encode_utf8
 values_read = refl

@@ -99,7 +99,8 @@ listed_below lists rows fields kept below a b p q e =
     record { list = x.list; of_lists = All-contains (IsKept lists) rows x.list kept x.of_lists a.below x.first; first = x.first; second = x.second }
 
 -- a group whose fields were looked at is done
-pub group_done : (sets : List SetTree) (lists : List (List ℕ)) (least : Option ℕ) (group : List ℕ) (fields : List FieldTree) → IsClosed sets group → AreOf sets group fields → AreCounted fields least → HaveBelow lists fields
+pub group_done : (sets : List SetTree) (lists : List (List ℕ)) (least : Option ℕ) (group : List ℕ) (fields : List FieldTree)
+    → IsClosed sets group → AreOf sets group fields → AreCounted fields least → HaveBelow lists fields
     → IsDone sets lists least group
 group_done sets lists least group fields closed of_group counted below = record {
   closed = closed;
@@ -108,7 +109,8 @@ group_done sets lists least group fields closed of_group counted below = record 
 }
 
 -- a set that is covered stays so
-pub covered_kept : (sets : List SetTree) (old new : List (List ℕ)) (least lower : Option ℕ) → Continues old new → ((n : ℕ) → AtMost least n → AtMost lower n) → (s : ℕ) → IsCovered sets old least s → IsCovered sets new lower s
+pub covered_kept : (sets : List SetTree) (old new : List (List ℕ)) (least lower : Option ℕ) → Continues old new
+    → ((n : ℕ) → AtMost least n → AtMost lower n) → (s : ℕ) → IsCovered sets old least s → IsCovered sets new lower s
 covered_kept sets old new least lower more low s x = explored_kept sets old new least lower more low (s ∷ []) x
 
 -- a list that is kept stays so
@@ -146,7 +148,9 @@ goes_still p = record { lists = goes_nowhere (lists_of p); lower = λ n h. h }
 -- a set without fields and spreads is a group that is done
 empty_done : (sets : List SetTree) (lists : List (List ℕ)) (least : Option ℕ) (s : ℕ) → IsEmpty sets s → IsDone sets lists least (s ∷ [])
 empty_done sets lists least s empty =
-    let no_field = λ (a : FieldTree) (w : IsWithin sets (s ∷ []) a). no_member a (subst (λ (fs : List FieldTree). Contains fs a) (ap (fields_at sets) (sym (only_one s w.set w.of_group)) ∙ empty.fields) w.stands) in
+    let no_field =
+    λ (a : FieldTree) (w : IsWithin sets (s ∷ []) a). no_member a
+    (subst (λ (fs : List FieldTree). Contains fs a) (ap (fields_at sets) (sym (only_one s w.set w.of_group)) ∙ empty.fields) w.stands) in
     record {
       closed = λ t u h c. absurd (no_member u (subst (λ (us : List ℕ). Contains us u) (ap (spreads_at sets) (sym (only_one s t h)) ∙ empty.spreads) c));
       counted = λ a b p q v. absurd (no_field a p);
@@ -180,7 +184,11 @@ module _ (sets : List SetTree) (p q r : Groups) (list group : List ℕ) (has : H
   pub marked_explored : Explored sets p r list
   marked_explored = record {
     sound = marked_sound;
-    goes = record { lists = subst (λ ls. Continues (lists_of p) (graph_view ls.rows.items)) (sym lists) looked.goes.lists; lower = λ n h. subst (λ f. AtMost f.least n) (sym found) (looked.goes.lower n h) };
+    goes =
+        record {
+          lists = subst (λ ls. Continues (lists_of p) (graph_view ls.rows.items)) (sym lists) looked.goes.lists;
+          lower = λ n h. subst (λ f. AtMost f.least n) (sym found) (looked.goes.lower n h);
+        };
     explored = at_r (λ ls o. IsExplored sets ls o list) (record { group = group; done = looked.done; has = has });
   }
 
@@ -196,7 +204,8 @@ pub end_covers : (sets : List SetTree) (q : Groups) (s : ℕ) → IsAtEnd sets q
 end_covers sets q s end h = all_explored sets q end (s ∷ []) h
 
 -- a state that has more lists
-pub more_sound : (sets : List SetTree) (p q : Groups) → Continues (lists_of p) (lists_of q) → q.found ≡ p.found → q.covered ≡ p.covered → All (AreTogether sets) (lists_of q) → IsSound sets p → IsSound sets q
+pub more_sound : (sets : List SetTree) (p q : Groups) → Continues (lists_of p) (lists_of q) → q.found ≡ p.found → q.covered ≡ p.covered
+    → All (AreTogether sets) (lists_of q) → IsSound sets p → IsSound sets q
 more_sound sets p q more found covered together sound = record {
   best = subst (λ f. AreConflicts sets f.best) (sym found) sound.best;
   together = together;
@@ -205,7 +214,8 @@ more_sound sets p q more found covered together sound = record {
       (covered_kept sets (lists_of p) (lists_of q) p.found.least p.found.least more (λ n h. h) s (sound.covered s (subst (λ marks. is_marked marks.items s ≡ true) covered m)));
 }
 
-pub more_explored : (sets : List SetTree) (p q : Groups) → Continues (lists_of p) (lists_of q) → q.found ≡ p.found → q.done ≡ p.done → length (lists_of p) ≡ p.done → AreExplored sets (lists_of p) p.found.least p.done
+pub more_explored : (sets : List SetTree) (p q : Groups) → Continues (lists_of p) (lists_of q) → q.found ≡ p.found → q.done ≡ p.done
+    → length (lists_of p) ≡ p.done → AreExplored sets (lists_of p) p.found.least p.done
     → AreExplored sets (lists_of q) q.found.least q.done
 more_explored sets p q more found done all explored =
     subst (λ (n : ℕ). AreExplored sets (lists_of q) q.found.least n) (sym done)
@@ -237,7 +247,8 @@ none_left [] at h = omega arith
 none_left (x ∷ xs) zero h = absurd (cc)
 none_left (x ∷ xs) (suc at) h = let r = none_left xs at h in omega (arith, r)
 
-pub at_end : (sets : List SetTree) (q : Groups) (at : ℕ) → IsSound sets q → AreExplored sets (lists_of q) q.found.least at → at ≤ length (lists_of q) → slice_get (lists_of q) at ≡ None → IsAtEnd sets (record q { done = at })
+pub at_end : (sets : List SetTree) (q : Groups) (at : ℕ) → IsSound sets q → AreExplored sets (lists_of q) q.found.least at
+    → at ≤ length (lists_of q) → slice_get (lists_of q) at ≡ None → IsAtEnd sets (record q { done = at })
 at_end sets q at sound explored inside none =
     let long = none_left (lists_of q) at none in
     record {

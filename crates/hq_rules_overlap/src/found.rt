@@ -39,7 +39,10 @@ fn is_settled(
     heads: &Heads<'_>,
     entry: &Entry<'_>,
 ) -> Result<bool, Memory>
-    ensures { IfOk result (λ settled. settled ≡ true → IsSettled (first_in heads.now (map (field_in arena.now) entries.now)) (label_in heads.now (map (field_in arena.now) entries.now)) (field_in arena.now entry.now)) }
+    ensures { IfOk result
+        (λ settled. settled ≡ true
+        → IsSettled (first_in heads.now (map (field_in arena.now) entries.now))
+        (label_in heads.now (map (field_in arena.now) entries.now)) (field_in arena.now entry.now)) }
 {
     let Some(first) = entry_at(entries, place_of(&heads.keys, entry.key())) else {
         return Ok(false);
@@ -170,7 +173,10 @@ impl Found {
         requires met { AreMet (arena_view arena.now) (map (field_in arena.now) entries.now) }
         requires stands { Contains (map (field_in arena.now) entries.now) (field_in arena.now entry.now) }
         ensures lower { OnOk result ((n : ℕ) → AtMost self.old.least n → AtMost self.new.least n) }
-        ensures noted { OnOk result (IsSettled (first_in heads.now (map (field_in arena.now) entries.now)) (label_in heads.now (map (field_in arena.now) entries.now)) (field_in arena.now entry.now) ⊎ AtMost self.new.least (field_in arena.now entry.now).at) }
+        ensures noted { OnOk result
+            (IsSettled (first_in heads.now (map (field_in arena.now) entries.now))
+            (label_in heads.now (map (field_in arena.now) entries.now)) (field_in arena.now entry.now)
+            ⊎ AtMost self.new.least (field_in arena.now entry.now).at) }
         ensures best { OnOk result (AreConflicts (arena_view arena.now) self.new.best) }
     {
         if is_at_most(self.best, entry.field.at) {
@@ -195,7 +201,12 @@ impl Found {
         requires best { AreConflicts (arena_view arena.now) self.old.best }
         requires met { AreMet (arena_view arena.now) (map (field_in arena.now) entries.now) }
         ensures lower { OnOk result ((n : ℕ) → AtMost self.old.least n → AtMost self.new.least n) }
-        ensures noted { OnOk result (All (λ f. IsSettled (first_in heads.now (map (field_in arena.now) entries.now)) (label_in heads.now (map (field_in arena.now) entries.now)) f ⊎ AtMost self.new.least f.at) (map (field_in arena.now) entries.now)) }
+        ensures noted { OnOk result
+            (All
+            (λ f. IsSettled (first_in heads.now (map (field_in arena.now) entries.now))
+            (label_in heads.now (map (field_in arena.now) entries.now)) f
+            ⊎ AtMost self.new.least f.at)
+            (map (field_in arena.now) entries.now)) }
         ensures best { OnOk result (AreConflicts (arena_view arena.now) self.new.best) }
     {
         for entry in entries {

@@ -238,7 +238,9 @@ impl Groups {
         requires { IsAtEnd (arena_view arena.now) self.old }
         ensures best { OnOk result (AreConflicts (arena_view arena.now) self.new.found.best) }
         ensures end { IfOk result (λ going. going ≡ true → IsAtEnd (arena_view arena.now) self.new) }
-        ensures covered { IfOk result (λ going. going ≡ true → (s : ℕ) → s < length (arena_view arena.now) → is_marked passed.now s ≡ false → IsCovered (arena_view arena.now) (lists_of self.new) self.new.found.least s) }
+        ensures covered { IfOk result
+            (λ going. going ≡ true → (s : ℕ) → s < length (arena_view arena.now) → is_marked passed.now s ≡ false
+            → IsCovered (arena_view arena.now) (lists_of self.new) self.new.found.least s) }
     {
         for set in 0..arena.sets.len() {
             let going = self.cover(alloc, arena, passed, set)?;

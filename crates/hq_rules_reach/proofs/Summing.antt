@@ -98,8 +98,14 @@ summary_push some all u h = record {
 
 pub summary_pass : (uses : List Use) (all : List (UseTree (List ℕ))) (found : Use) → HasLike uses found → IsSummary (map use_view uses) all → IsSummary (map use_view uses) (all ++ use_view found ∷ [])
 summary_pass uses all found like h = record {
-  least = λ w. sym (least_of-push (place_of w) all (use_view found) ∙ ap (λ o. earlier o (place_of w (use_view found))) (sym (h.least w)) ∙ least_with_like w uses like.index found like.below like.like);
-  names = λ p. sym (list_any-push (λ (v : UseTree (List ℕ)). p v.name) all (use_view found) ∙ ap (λ b. b || p found.name.now) (sym (h.names p)) ∙ any_with_like p uses like.index found like.below like.like);
+  least =
+      λ w. sym
+      (least_of-push (place_of w) all (use_view found) ∙ ap (λ o. earlier o (place_of w (use_view found))) (sym (h.least w))
+      ∙ least_with_like w uses like.index found like.below like.like);
+  names =
+      λ p. sym
+      (list_any-push (λ (v : UseTree (List ℕ)). p v.name) all (use_view found) ∙ ap (λ b. b || p found.name.now) (sym (h.names p))
+      ∙ any_with_like p uses like.index found like.below like.like);
 }
 
 -- ---- uses in the order of the text

@@ -40,11 +40,15 @@ abbrev is_wrong_for : SchemaTree → Option VarDefTree → Option PlaceTree → 
 is_wrong_for s None place = false
 is_wrong_for s (Some v) place = is_wrong_type (resolved s v.ty) (has_default v.default) place
 
-place_for : (s : SchemaTree) (v : Option VarDefTree) (u : UseTree (List ℕ)) → option_and_then (λ v. at_if (is_wrong_type (resolved s v.ty) (has_default v.default) u.place) u.at) v ≡ at_if (is_wrong_for s v u.place) u.at
+place_for : (s : SchemaTree) (v : Option VarDefTree) (u : UseTree (List ℕ))
+    → option_and_then (λ v. at_if (is_wrong_type (resolved s v.ty) (has_default v.default) u.place) u.at) v
+    ≡ at_if (is_wrong_for s v u.place) u.at
 place_for s None u = refl
 place_for s (Some v) u = refl
 
-wrong_by_name : (s : SchemaTree) (vars : List VarDefTree) → wrong_use s vars (variable_named vars) ≡ (λ u. at_if (is_wrong_for s (option_and_then (slice_get vars) (variable_named vars u.name)) u.place) u.at)
+wrong_by_name : (s : SchemaTree) (vars : List VarDefTree)
+    → wrong_use s vars (variable_named vars)
+    ≡ (λ u. at_if (is_wrong_for s (option_and_then (slice_get vars) (variable_named vars u.name)) u.place) u.at)
 wrong_by_name s vars = fun_ext (λ (u : UseTree (List ℕ)). place_for s (option_and_then (slice_get vars) (variable_named vars u.name)) u)
 
 pub wrong_summed : (s : SchemaTree) (some all : List (List (UseTree (List ℕ)))) → AreSummaries some all → wrong_in s some ≡ wrong_in s all

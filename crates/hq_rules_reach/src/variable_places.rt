@@ -51,7 +51,10 @@ fn note_variable(
 )
     requires { AreNumbers (get_name numbers.now) (length places.old.items) }
     ensures length { length places.new.items ≡ length places.old.items }
-    ensures noted { (n : ℕ) → numbered_place places.new.items n ≡ option_or (numbered_place places.old.items n) (if is_number (get_name numbers.now (var_def_view var_def.now).name) n then Some at else None) }
+    ensures noted { (n : ℕ)
+        → numbered_place places.new.items n
+        ≡ option_or (numbered_place places.old.items n)
+        (if is_number (get_name numbers.now (var_def_view var_def.now).name) n then Some at else None) }
 {
     match number_of(numbers, &var_def.name) {
         Some(number) => note_place(&mut *places, number, at),

@@ -67,7 +67,11 @@ fn places_among(
     requires places { ArePlaces (get_name uses.now.numbers.names) places.now (map var_def_view vars.now) }
     ensures undefined { IfOk result (λ p. p.undefined ≡ earlier least.undefined (undefined_in (uses_view uses.now.all.items) (map var_def_view vars.now) definitions.now)) }
     ensures unused { IfOk result (λ p. p.undefined ≡ None → p.unused ≡ earlier least.unused (unused_in (uses_view uses.now.all.items) (map var_def_view vars.now) definitions.now)) }
-    ensures wrong { IfOk result (λ p. p.undefined ≡ None → p.wrong ≡ earlier least.wrong (wrong_in (schema_view schema.now) (uses_view uses.now.all.items) (map var_def_view vars.now) definitions.now)) }
+    ensures wrong { IfOk result
+        (λ p. p.undefined ≡ None
+        → p.wrong
+        ≡ earlier least.wrong
+        (wrong_in (schema_view schema.now) (uses_view uses.now.all.items) (map var_def_view vars.now) definitions.now)) }
 {
     let undefined = undefined_in(
         places,
@@ -113,7 +117,11 @@ fn places_with(
     ensures clear { IsClear places.new.items }
     ensures undefined { IfOk result (λ p. p.undefined ≡ earlier least.undefined (undefined_in (uses_view uses.now.all.items) (map var_def_view vars.now) definitions.now)) }
     ensures unused { IfOk result (λ p. p.undefined ≡ None → p.unused ≡ earlier least.unused (unused_in (uses_view uses.now.all.items) (map var_def_view vars.now) definitions.now)) }
-    ensures wrong { IfOk result (λ p. p.undefined ≡ None → p.wrong ≡ earlier least.wrong (wrong_in (schema_view schema.now) (uses_view uses.now.all.items) (map var_def_view vars.now) definitions.now)) }
+    ensures wrong { IfOk result
+        (λ p. p.undefined ≡ None
+        → p.wrong
+        ≡ earlier least.wrong
+        (wrong_in (schema_view schema.now) (uses_view uses.now.all.items) (map var_def_view vars.now) definitions.now)) }
 {
     note_variables(&mut *places, &uses.numbers.names, vars);
     let found = places_among(alloc, schema, vars, types, uses, places, definitions, least);
@@ -140,8 +148,17 @@ fn places_reached(
     ensures long { length places.new.items ≡ length places.old.items }
     ensures clear { IsClear places.new.items }
     ensures undefined { IfOk result (λ p. p.undefined ≡ earlier least.undefined (undefined_in (uses_view uses.now.all.items) (map var_def_view vars.now) (reached (graph_view graph.now) (at ∷ [])))) }
-    ensures unused { IfOk result (λ p. p.undefined ≡ None → p.unused ≡ earlier least.unused (unused_in (uses_view uses.now.all.items) (map var_def_view vars.now) (reached (graph_view graph.now) (at ∷ [])))) }
-    ensures wrong { IfOk result (λ p. p.undefined ≡ None → p.wrong ≡ earlier least.wrong (wrong_in (schema_view schema.now) (uses_view uses.now.all.items) (map var_def_view vars.now) (reached (graph_view graph.now) (at ∷ [])))) }
+    ensures unused { IfOk result
+        (λ p. p.undefined ≡ None
+        → p.unused
+        ≡ earlier least.unused
+        (unused_in (uses_view uses.now.all.items) (map var_def_view vars.now) (reached (graph_view graph.now) (at ∷ [])))) }
+    ensures wrong { IfOk result
+        (λ p. p.undefined ≡ None
+        → p.wrong
+        ≡ earlier least.wrong
+        (wrong_in (schema_view schema.now) (uses_view uses.now.all.items) (map var_def_view vars.now)
+        (reached (graph_view graph.now) (at ∷ [])))) }
 {
     let definitions = reached(alloc, graph, &[at])?;
     let found = places_with(
@@ -175,9 +192,21 @@ fn places_at(
     requires clear { IsClear places.old.items }
     ensures long { length places.new.items ≡ length places.old.items }
     ensures clear { IsClear places.new.items }
-    ensures undefined { IfOk result (λ p. p.undefined ≡ earlier least.undefined (in_operation (undefined_in (uses_view uses.now.all.items)) (graph_view graph.now) at (definition_view definition.now))) }
-    ensures unused { IfOk result (λ p. p.undefined ≡ None → p.unused ≡ earlier least.unused (in_operation (unused_in (uses_view uses.now.all.items)) (graph_view graph.now) at (definition_view definition.now))) }
-    ensures wrong { IfOk result (λ p. p.undefined ≡ None → p.wrong ≡ earlier least.wrong (in_operation (wrong_in (schema_view schema.now) (uses_view uses.now.all.items)) (graph_view graph.now) at (definition_view definition.now))) }
+    ensures undefined { IfOk result
+        (λ p. p.undefined
+        ≡ earlier least.undefined
+        (in_operation (undefined_in (uses_view uses.now.all.items)) (graph_view graph.now) at (definition_view definition.now))) }
+    ensures unused { IfOk result
+        (λ p. p.undefined ≡ None
+        → p.unused
+        ≡ earlier least.unused
+        (in_operation (unused_in (uses_view uses.now.all.items)) (graph_view graph.now) at (definition_view definition.now))) }
+    ensures wrong { IfOk result
+        (λ p. p.undefined ≡ None
+        → p.wrong
+        ≡ earlier least.wrong
+        (in_operation (wrong_in (schema_view schema.now) (uses_view uses.now.all.items)) (graph_view graph.now) at
+        (definition_view definition.now))) }
 {
     match definition {
         Definition::Operation(operation) => places_reached(
@@ -208,7 +237,11 @@ fn least_places(
     requires fit { AreFit uses.now }
     ensures undefined { IfOk result (λ p. p.undefined ≡ no_undefined_variables (graph_view graph.now) (uses_view uses.now.all.items) (document_view document.now)) }
     ensures unused { IfOk result (λ p. p.undefined ≡ None → p.unused ≡ no_unused_variables (graph_view graph.now) (uses_view uses.now.all.items) (document_view document.now)) }
-    ensures wrong { IfOk result (λ p. p.undefined ≡ None → p.wrong ≡ variables_in_allowed_position (schema_view schema.now) (graph_view graph.now) (uses_view uses.now.all.items) (document_view document.now)) }
+    ensures wrong { IfOk result
+        (λ p. p.undefined ≡ None
+        → p.wrong
+        ≡ variables_in_allowed_position (schema_view schema.now) (graph_view graph.now) (uses_view uses.now.all.items)
+        (document_view document.now)) }
 {
     let mut places = no_places(alloc, uses.numbers.count)?;
     let mut least = VariablePlaces {

@@ -69,14 +69,16 @@ column_name c = c.name
 abbrev type_names : ShownTable → List (List ℕ)
 type_names t = map (λ (q : Part). t.name ++ part_suffix q) (parts_of t)
 
-tables_named : (scalars : List (List ℕ)) (ps : List PlacedTable) (first : ℕ) (ts : List ShownTable) → map (λ (t : TypeTree). t.name) (flat_map (table_types scalars ps) (placed_from first ts)) ≡ flat_map type_names ts
+tables_named : (scalars : List (List ℕ)) (ps : List PlacedTable) (first : ℕ) (ts : List ShownTable)
+    → map (λ (t : TypeTree). t.name) (flat_map (table_types scalars ps) (placed_from first ts)) ≡ flat_map type_names ts
 unfolding part_type
 tables_named scalars ps first [] = refl
 tables_named scalars ps first (t ∷ ts) =
     let p : PlacedTable = record { shown = t; first = first } in
     let ls = links_from ps 0 t.rels in
     map-append (λ (t : TypeTree). t.name) (types_with scalars p ls) (flat_map (table_types scalars ps) (placed_from (first + part_count t) ts))
-    ∙ (ap (λ xs. xs ++ map (λ (t : TypeTree). t.name) (flat_map (table_types scalars ps) (placed_from (first + part_count t) ts))) (map_map (λ (t : TypeTree). t.name) (part_type scalars p ls) (parts_of t))
+    ∙ (ap (λ xs. xs ++ map (λ (t : TypeTree). t.name) (flat_map (table_types scalars ps) (placed_from (first + part_count t) ts)))
+    (map_map (λ (t : TypeTree). t.name) (part_type scalars p ls) (parts_of t))
     ∙ ap (λ xs. type_names t ++ xs) (tables_named scalars ps (first + part_count t) ts))
 
 scalars_named : (scalars : List (List ℕ)) → map (λ (t : TypeTree). t.name) (map scalar_type scalars) ≡ scalars
@@ -96,7 +98,11 @@ roots_named first (t ∷ ts) =
     ∙ (ap (λ xs. t.roots.select ∷ xs ++ map field_name (flat_map root_fields (placed_from (first + part_count t) ts))) (by t.aggregates t.key)
     ∙ ap (λ xs. root_names t ++ xs) (roots_named (first + part_count t) ts))
   where
-    by : (g : Bool) (o : Option (List ShownColumn)) → map field_name (cond g (aggregate_field t.roots.select_aggregate first (field.RowsAggregate t.table) ∷ []) [] ++ key_fields (record { shown = t; first = first }) o) ≡ cond g (t.roots.select_aggregate ∷ []) [] ++ key_names t.roots o
+    by : (g : Bool) (o : Option (List ShownColumn))
+        → map field_name
+        (cond g (aggregate_field t.roots.select_aggregate first (field.RowsAggregate t.table) ∷ []) []
+        ++ key_fields (record { shown = t; first = first }) o)
+        ≡ cond g (t.roots.select_aggregate ∷ []) [] ++ key_names t.roots o
     by true None = refl
     by true (Some key) = refl
     by false None = refl
@@ -111,7 +117,9 @@ pub record TableDiffers (ps : List PlacedTable) (t : ShownTable) : Type 0 where
   pub sorts : differ (map input_name (inputs_of Sort t.columns (links_from ps 0 t.rels))) ≡ true
   pub key : IfSome t.key (λ (key : List ShownColumn). differ (map column_name key) ≡ true)
 
-module _ (m : MetaTree) (ps : List PlacedTable) (seen : Each (λ (p : PlacedTable). admin.is_in_schema m p.shown.table ≡ true) ps) (k : TrackedTree) (own : (differ (admin.fields_of m k) && differ (admin.inputs_of m k)) ≡ true) (tb : Table) (key_differs : all_differ (λ (c d : ℕ). c == d) tb.key ≡ true) (p : Permission) (chosen : Sub p.columns (named_columns k)) where
+module _ (m : MetaTree) (ps : List PlacedTable) (seen : Each (λ (p : PlacedTable). admin.is_in_schema m p.shown.table ≡ true) ps)
+    (k : TrackedTree) (own : (differ (admin.fields_of m k) && differ (admin.inputs_of m k)) ≡ true) (tb : Table)
+    (key_differs : all_differ (λ (c d : ℕ). c == d) tb.key ≡ true) (p : Permission) (chosen : Sub p.columns (named_columns k)) where
   abbrev rel_names : List (List ℕ)
   rel_names = map (λ r. r.name) (admin.rels_in_schema m k)
 
@@ -137,7 +145,8 @@ module _ (m : MetaTree) (ps : List PlacedTable) (seen : Each (λ (p : PlacedTabl
   row_differs scalars =
       let joined = map-append field_name (column_fields scalars Rows columns_of) (flat_map link_fields links_of) in
       let some : Sub (map field_name (column_fields scalars Rows columns_of) ++ map field_name (flat_map link_fields links_of)) (admin.fields_of m k) =
-      sub_append (map field_name (column_fields scalars Rows columns_of)) (admin.column_names_of k) (map field_name (flat_map link_fields links_of)) (flat_map admin.rel_fields (admin.rels_in_schema m k))
+      sub_append (map field_name (column_fields scalars Rows columns_of)) (admin.column_names_of k)
+      (map field_name (flat_map link_fields links_of)) (flat_map admin.rel_fields (admin.rels_in_schema m k))
       (sub_trans (map field_name (column_fields scalars Rows columns_of)) (map column_name columns_of) (admin.column_names_of k) (fields_sub scalars Rows columns_of) columns_some)
       (link_fields_sub m ps seen k.rels)
       in
@@ -168,7 +177,9 @@ module _ (m : MetaTree) (ps : List PlacedTable) (seen : Each (λ (p : PlacedTabl
   key_names_differ h =
       let name = λ (c : ℕ). slice_index_or k.column_names c [] in
       let permitted = each_of (λ c. list_any (λ d. d == c) p.columns) tb.key h in
-      let all = each_weaken (λ c. list_any (λ d. d == c) p.columns ≡ true) (λ c. list_any (λ d. d == c) (named_columns k) ≡ true) (λ c g. any_sub (λ d. d == c) p.columns (named_columns k) chosen g) tb.key permitted in
+      let all =
+      each_weaken (λ c. list_any (λ d. d == c) p.columns ≡ true) (λ c. list_any (λ d. d == c) (named_columns k) ≡ true)
+      (λ c g. any_sub (λ d. d == c) p.columns (named_columns k) chosen g) tb.key permitted in
       differ_some (map column_name (shown_columns tb k [] tb.key)) (map name tb.key) (columns_named tb k [] tb.key) (images_differ name (named_columns k) all_columns_differ tb.key key_differs all)
 
   table_differs : TableDiffers ps (shown_table k tb p)
@@ -180,7 +191,8 @@ module _ (m : MetaTree) (ps : List PlacedTable) (seen : Each (λ (p : PlacedTabl
     key = by (list_all (λ c. list_any (λ d. d == c) p.columns) tb.key) refl;
   }
     where
-      by : (b : Bool) → list_all (λ c. list_any (λ d. d == c) p.columns) tb.key ≡ b → IfSome (cond b (Some (shown_columns tb k [] tb.key)) None) (λ (key : List ShownColumn). differ (map column_name key) ≡ true)
+      by : (b : Bool) → list_all (λ c. list_any (λ d. d == c) p.columns) tb.key ≡ b
+          → IfSome (cond b (Some (shown_columns tb k [] tb.key)) None) (λ (key : List ShownColumn). differ (map column_name key) ≡ true)
       by true e = key_names_differ e
       by false e = tt
 
@@ -190,7 +202,8 @@ column_args : (scalars : List (List ℕ)) (q : Part) (cs : List ShownColumn) →
 column_args scalars q [] = tt
 column_args scalars q (c ∷ cs) = by (column_type scalars q c) (column_args scalars q cs)
   where
-    by : (o : Option TypeRefTree) → Each ArgsDiffer (column_fields scalars q cs) → Each ArgsDiffer (cons_option (option_map (λ r. plain_field c.name r (field.Column c.col)) o) (column_fields scalars q cs))
+    by : (o : Option TypeRefTree) → Each ArgsDiffer (column_fields scalars q cs)
+        → Each ArgsDiffer (cons_option (option_map (λ r. plain_field c.name r (field.Column c.col)) o) (column_fields scalars q cs))
     by None later = later
     by (Some r) later = (refl, later)
 
@@ -198,7 +211,12 @@ link_args : (l : Link) → Each ArgsDiffer (link_fields l)
 unfolding list_args
 link_args l = by l.many l.aggregates
   where
-    by : (lots closed : Bool) → Each ArgsDiffer (cond lots (list_field l.name l.first (field.«List» l.rel) ∷ cond closed (aggregate_field (l.name ++ codes "_aggregate") l.first (field.ListAggregate l.rel) ∷ []) []) (plain_field l.name (part l.first Rows) (field.Object l.rel) ∷ []))
+    by : (lots closed : Bool)
+        → Each ArgsDiffer
+        (cond lots
+        (list_field l.name l.first (field.«List» l.rel)
+        ∷ cond closed (aggregate_field (l.name ++ codes "_aggregate") l.first (field.ListAggregate l.rel) ∷ []) [])
+        (plain_field l.name (part l.first Rows) (field.Object l.rel) ∷ []))
     by true true = (refl, (refl, tt))
     by true false = (refl, tt)
     by false closed = (refl, tt)
@@ -236,7 +254,14 @@ module _ (scalars : List (List ℕ)) (ps : List PlacedTable) (p : PlacedTable) (
 
   part_differs : (q : Part) → TypeDiffers (part_type scalars p these q)
   unfolding part_type part_fields part_inputs
-  part_differs Rows = record { fields = d.row scalars; args = each_append ArgsDiffer (column_fields scalars Rows p.shown.columns) (flat_map link_fields these) (column_args scalars Rows p.shown.columns) (links_args these); inputs = refl; values = refl }
+  part_differs Rows =
+      record {
+        fields = d.row scalars;
+        args = each_append ArgsDiffer (column_fields scalars Rows p.shown.columns) (flat_map link_fields these)
+            (column_args scalars Rows p.shown.columns) (links_args these);
+        inputs = refl;
+        values = refl;
+      }
   part_differs Filter = record { fields = columns_field_names Filter; args = column_args scalars Filter p.shown.columns; inputs = d.filters p.first; values = refl }
   part_differs Sort = record { fields = columns_field_names Sort; args = column_args scalars Sort p.shown.columns; inputs = d.sorts; values = refl }
   part_differs Columns = record { fields = columns_field_names Columns; args = column_args scalars Columns p.shown.columns; inputs = refl; values = d.columns }
@@ -397,7 +422,11 @@ module _ (tables : List Table) (m : MetaTree) (role : Role) (catalog : is_catalo
       seen = placed_each (λ (t : ShownTable). admin.is_in_schema m t.table ≡ true) (behind_scalars (scalars_of shown)) shown seen_tables
 
       valid : (i : ℕ) (t : Table) → slice_get tables i ≡ Some t → is_table tables t ≡ true
-      valid i t e = each_get (λ (t : Table). is_table tables t ≡ true) tables i t (each_of (is_table tables) tables (and_parts (nat_le (length tables) 500 && all_differ (λ t u. bytes_eq (full_name t) (full_name u)) tables) (list_all (is_table tables) tables) catalog).1) e
+      valid i t e =
+          each_get (λ (t : Table). is_table tables t ≡ true) tables i t
+          (each_of (is_table tables) tables
+          (and_parts (nat_le (length tables) 500 && all_differ (λ t u. bytes_eq (full_name t) (full_name u)) tables) (list_all (is_table tables) tables) catalog).1)
+          e
 
       one : (k : TrackedTree) → First k → OwnDiffer k ≡ true → IfSome (shown_entry tables m role k) (TableDiffers (placed shown))
       one k first own = by (shown_entry tables m role k) refl
@@ -468,10 +497,14 @@ module _ (tables : List Table) (m : MetaTree) (role : Role) (catalog : is_catalo
       sub_append admin.fixed_types admin.fixed_types own_names (flat_map (admin.types_of (schema_of tables m)) m.tracked) (sub_same admin.fixed_types) types_some
       in
       let unlike : Each (λ n. list_any (λ t. bytes_eq t n) (admin.fixed_types ++ own_names) ≡ false) scalars =
-      each_weaken Unlike (λ n. list_any (λ t. bytes_eq t n) (admin.fixed_types ++ own_names) ≡ false) (λ n h. none_sub (λ t. bytes_eq t n) (admin.fixed_types ++ own_names) wide some h) scalars scalars_unlike
+      each_weaken Unlike (λ n. list_any (λ t. bytes_eq t n) (admin.fixed_types ++ own_names) ≡ false)
+      (λ n h. none_sub (λ t. bytes_eq t n) (admin.fixed_types ++ own_names) wide some h) scalars scalars_unlike
       in
       record {
-        types = ap differ are ∙ differ_between admin.fixed_types scalars own_names (differ_some (admin.fixed_types ++ own_names) wide some both.0) (firsts_differ bytes_eq (flat_map table_scalars shown)) unlike;
+        types =
+            ap differ are
+            ∙ differ_between admin.fixed_types scalars own_names (differ_some (admin.fixed_types ++ own_names) wide some both.0)
+            (firsts_differ bytes_eq (flat_map table_scalars shown)) unlike;
         members =
             types_differ shown (placed_each (TableDiffers (placed shown)) (behind_scalars scalars) shown tables_differ)
             (differ_some (flat_map root_names shown) (flat_map (admin.roots_of (schema_of tables m)) m.tracked) roots_some both.1);

@@ -40,7 +40,9 @@ use Rattle.hq_schema_roles.proofs.Lists.{each_append, each_map, each_flat_map, e
 use Rattle.hq_schema_roles.proofs.Permits.{Permits, tables_permit, placed_permit}
 use Rattle.hq_schema_roles.proofs.Standing.{StandsAt, PartStands, ScalarsStand, has_four, has_fields_part, has_aggregated, stand_from, scalars_stand, fixed_stands}
 
-module _ (types : List TypeTree) (a : Access) (fixed_ones : (f : Fixed) → StandsAt types (fixed_place f) (fixed_origin f) (fixed_kind f)) (scalars : List (List ℕ)) (scalar_ones : ScalarsStand types scalars) (p : PlacedTable) (s : Sound types a p) (ls : List Link) (linked : Each (LinkFits types a p.shown.table) ls) where
+module _ (types : List TypeTree) (a : Access) (fixed_ones : (f : Fixed) → StandsAt types (fixed_place f) (fixed_origin f) (fixed_kind f))
+    (scalars : List (List ℕ)) (scalar_ones : ScalarsStand types scalars) (p : PlacedTable) (s : Sound types a p) (ls : List Link)
+    (linked : Each (LinkFits types a p.shown.table) ls) where
   -- a part in which no column has a field
   no_columns : (owner : TypeOrigin) (q : Part) → ((c : ShownColumn) → column_field scalars q c ≡ None) → Each (FieldFits types a owner) (column_fields scalars q p.shown.columns)
   no_columns owner q none =
@@ -125,7 +127,8 @@ module _ (types : List TypeTree) (a : Access) (fixed_ones : (f : Fixed) → Stan
       )
 
   -- what an aggregate gives leads to its type
-  aggregated_fits : (place : ℕ) (g : OneAggregate) → StandsAt types place (type.Aggregated g p.shown.table) kind.Object → FieldFits types a (type.AggregateFields p.shown.table) (plain_field (aggregate_name g) (named place) (field.Aggregated g))
+  aggregated_fits : (place : ℕ) (g : OneAggregate) → StandsAt types place (type.Aggregated g p.shown.table) kind.Object
+      → FieldFits types a (type.AggregateFields p.shown.table) (plain_field (aggregate_name g) (named place) (field.Aggregated g))
   aggregated_fits place g stands = record {
     reaches = reaches_it types (named place) (type.Aggregated g p.shown.table) kind.Object stands;
     output = is_of types is_output (named place) (type.Aggregated g p.shown.table) kind.Object stands refl;
@@ -133,7 +136,9 @@ module _ (types : List TypeTree) (a : Access) (fixed_ones : (f : Fixed) → Stan
   }
 
   -- and so does each, where their types stand one behind the other
-  all_aggregated_fit : (place : ℕ) (gs : List OneAggregate) → ((i : ℕ) (g : OneAggregate) → slice_get gs i ≡ Some g → StandsAt types (place + i) (type.Aggregated g p.shown.table) kind.Object) → Each (FieldFits types a (type.AggregateFields p.shown.table)) (aggregated_fields place gs)
+  all_aggregated_fit : (place : ℕ) (gs : List OneAggregate)
+      → ((i : ℕ) (g : OneAggregate) → slice_get gs i ≡ Some g → StandsAt types (place + i) (type.Aggregated g p.shown.table) kind.Object)
+      → Each (FieldFits types a (type.AggregateFields p.shown.table)) (aggregated_fields place gs)
   all_aggregated_fit place [] stand = tt
   all_aggregated_fit place (g ∷ gs) stand =
       let here : place + 0 ≡ place = omega arith in
@@ -185,7 +190,9 @@ module _ (types : List TypeTree) (a : Access) (fixed_ones : (f : Fixed) → Stan
       by true allowed = (aggregate_part allowed, (over_part allowed, aggregated_parts (aggregates_over p.shown.columns)))
       by false closed = tt
 
-table_fits : (types : List TypeTree) (a : Access) → ((f : Fixed) → StandsAt types (fixed_place f) (fixed_origin f) (fixed_kind f)) → (scalars : List (List ℕ)) → ScalarsStand types scalars → (ps : List PlacedTable) → Each (Sound types a) ps → (p : PlacedTable) → Sound types a p → Each (TypeFits types a) (table_types scalars ps p)
+table_fits : (types : List TypeTree) (a : Access) → ((f : Fixed) → StandsAt types (fixed_place f) (fixed_origin f) (fixed_kind f))
+    → (scalars : List (List ℕ)) → ScalarsStand types scalars → (ps : List PlacedTable) → Each (Sound types a) ps → (p : PlacedTable)
+    → Sound types a p → Each (TypeFits types a) (table_types scalars ps p)
 table_fits types a fixed_ones scalars scalar_ones ps sound p s =
     types_fit types a fixed_ones scalars scalar_ones p s (links_from ps 0 p.shown.rels) (links_fit types a ps sound p.shown.table p.shown.rels s.permits.rels)
 
@@ -214,6 +221,8 @@ over_fits a ts permits =
     (each_map (TypeFits types a) (λ (n : List ℕ). Unit {0}) scalar_type (λ n u. scalar_fits types a n) scalars (each_all (λ (n : List ℕ). Unit {0}) (λ n. tt) scalars)))
     (each_flat_map (TypeFits types a) (Sound types a) (table_types scalars ps) (table_fits types a fixed_ones scalars scalar_ones ps sound) ps sound)
 
-pub schema_fits : (tables : List Table) (m : MetaTree) (role : Role) → all_differ (λ (j k : TrackedTree). j.table == k.table) m.tracked ≡ true → Each (TypeFits (role_schema tables m role).types (access_of m role)) (role_schema tables m role).types
+pub schema_fits : (tables : List Table) (m : MetaTree) (role : Role)
+    → all_differ (λ (j k : TrackedTree). j.table == k.table) m.tracked ≡ true
+    → Each (TypeFits (role_schema tables m role).types (access_of m role)) (role_schema tables m role).types
 unfolding role_schema
 schema_fits tables m role differ = over_fits (access_of m role) (shown_tables tables m role) (tables_permit tables m role differ)

@@ -56,7 +56,10 @@ not_kept kept name [] each none = refl
 not_kept kept name (n ∷ ns) each none =
     let parts = both (is_some (kept_for kept n)) (keeps_each kept ns) each in
     let apart : bytes_eq name n ≡ false =
-    never (bytes_eq name n) (λ h. let missing : is_some (kept_for kept n) ≡ false = ap (λ m. is_some (kept_for kept m)) (sym (same_text name n h)) ∙ ap is_some none in not_true (is_some (kept_for kept n)) missing parts.0) in
+    never (bytes_eq name n)
+    (λ h. let missing : is_some (kept_for kept n) ≡ false = ap (λ m. is_some (kept_for kept m)) (sym (same_text name n h))
+    ∙ ap is_some none in not_true (is_some (kept_for kept n)) missing parts.0)
+    in
     ap (λ b. b || is_among name ns) apart ∙ not_kept kept name ns parts.1 none
 
 among_more : (name : List ℕ) (earlier : List (List ℕ)) (n : List ℕ) → is_among name earlier ≡ false → bytes_eq name n ≡ false → is_among name (earlier ++ n ∷ []) ≡ false
@@ -94,7 +97,9 @@ none_among : {A : Type 0} (role : A → List ℕ) (name : List ℕ) (xs : List A
 none_among role name [] h = refl
 none_among role name (x ∷ xs) h =
     let parts = neither (bytes_eq name (role x)) (is_among name (map role xs)) h in
-    let apart : bytes_eq (role x) name ≡ false = never (bytes_eq (role x) name) (λ e. not_true (bytes_eq name (role x)) parts.0 ((bytes_eq-Decides name (role x)).1 (sym (same_text (role x) name e)))) in
+    let apart : bytes_eq (role x) name ≡ false =
+    never (bytes_eq (role x) name)
+    (λ e. not_true (bytes_eq name (role x)) parts.0 ((bytes_eq-Decides name (role x)).1 (sym (same_text (role x) name e)))) in
     ap (λ b. cond b (Some x) (find (λ y. bytes_eq (role y) name) xs)) apart ∙ none_among role name xs parts.1
 
 -- no permission is that of the role
@@ -185,5 +190,6 @@ admin_sees_nothing tables m fit =
     }
 
 -- each role that is not among those that may see something has the schema of a role of the name `admin`
-pub other_role : (tables : List Table) (m : MetaTree) (name : List ℕ) → fits tables m ≡ true → is_among name (seeing_roles m) ≡ false → role_schema tables m (Named name) ≡ role_schema tables m (Named (codes "admin"))
+pub other_role : (tables : List Table) (m : MetaTree) (name : List ℕ) → fits tables m ≡ true → is_among name (seeing_roles m) ≡ false
+    → role_schema tables m (Named name) ≡ role_schema tables m (Named (codes "admin"))
 other_role tables m name fit h = alike tables m name (codes "admin") (other_sees_nothing m name h) (admin_sees_nothing tables m fit)

@@ -45,7 +45,8 @@ module _ (tables : List Table) (m : MetaTree) (k : TrackedTree) (tb : Table) (he
       one None e later = later
       one (Some n) e later = (not-true (list_any (λ t. bytes_eq t n) types) e, later)
 
-      by : (o : Option Column) (n : Option (List ℕ)) → slice_get tb.columns c ≡ o → Each Unlike rest → Each Unlike (filter_map (λ (x : ShownColumn). x.scalar) (cons_option (under_name ms c o n) (shown_columns tb k ms cs)))
+      by : (o : Option Column) (n : Option (List ℕ)) → slice_get tb.columns c ≡ o → Each Unlike rest
+          → Each Unlike (filter_map (λ (x : ShownColumn). x.scalar) (cons_option (under_name ms c o n) (shown_columns tb k ms cs)))
       by None n e later = later
       by (Some x) None e later = later
       by (Some x) (Some name) e later = one (scalar_of x) (ap (λ (y : Column). is_unlike types (scalar_of y)) (sym (column_is c x e)) ∙ h.0) later
@@ -90,7 +91,8 @@ differ_before (s ∷ scalars) rest h g unlike =
     and_from (not (list_any (bytes_eq s) (scalars ++ rest))) (differ (scalars ++ rest)) (not_from_false (list_any (bytes_eq s) (scalars ++ rest)) away) (differ_before scalars rest h parts.1 unlike.1)
 
 -- and the same between two parts of such names
-pub differ_between : (front scalars rest : List (List ℕ)) → differ (front ++ rest) ≡ true → differ scalars ≡ true → Each (λ s. list_any (λ t. bytes_eq t s) (front ++ rest) ≡ false) scalars → differ ((front ++ scalars) ++ rest) ≡ true
+pub differ_between : (front scalars rest : List (List ℕ)) → differ (front ++ rest) ≡ true → differ scalars ≡ true
+    → Each (λ s. list_any (λ t. bytes_eq t s) (front ++ rest) ≡ false) scalars → differ ((front ++ scalars) ++ rest) ≡ true
 differ_between [] scalars rest h g unlike = differ_before scalars rest h g unlike
 differ_between (f ∷ front) scalars rest h g unlike =
     let parts = and_parts (not (list_any (bytes_eq f) (front ++ rest))) (differ (front ++ rest)) h in

@@ -80,12 +80,14 @@ has_aggregated t i g allowed here =
 -- ---- tables one after the other
 
 -- a type among those of its table
-in_block : (scalars : List (List ℕ)) (p : PlacedTable) (ls : List Link) (i : ℕ) (part : Part) → slice_get (parts_of p.shown) i ≡ Some part → option_map what (slice_get (types_with scalars p ls) i) ≡ Some (part_origin part p.shown.table, part_kind part)
+in_block : (scalars : List (List ℕ)) (p : PlacedTable) (ls : List Link) (i : ℕ) (part : Part) → slice_get (parts_of p.shown) i ≡ Some part
+    → option_map what (slice_get (types_with scalars p ls) i) ≡ Some (part_origin part p.shown.table, part_kind part)
 unfolding part_type
 in_block scalars p ls i part here =
     ap (option_map what) (slice_get-map (part_type scalars p ls) (parts_of p.shown) i ∙ ap (option_map (part_type scalars p ls)) here)
 
-pub stand_from : (scalars : List (List ℕ)) (ps : List PlacedTable) (front : List TypeTree) (first : ℕ) (ts : List ShownTable) → length front ≡ first → Each (Stands (front ++ flat_map (table_types scalars ps) (placed_from first ts))) (placed_from first ts)
+pub stand_from : (scalars : List (List ℕ)) (ps : List PlacedTable) (front : List TypeTree) (first : ℕ) (ts : List ShownTable)
+    → length front ≡ first → Each (Stands (front ++ flat_map (table_types scalars ps) (placed_from first ts))) (placed_from first ts)
 stand_from scalars ps front first [] long = tt
 stand_from scalars ps front first (t ∷ ts) long =
     let p : PlacedTable = record { shown = t; first = first } in

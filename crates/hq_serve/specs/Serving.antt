@@ -43,7 +43,8 @@ abbrev pub ServedBehind : {L : Type 0} → (List Header → Type 0) → (List He
 ServedBehind deny give t accepted f f' olds news ends = (take accepted news ≡ take accepted olds) × EachServed deny give t f f' (drop accepted olds) (drop accepted news) ends
 
 -- the same where the door tells its links; a count of accepted links that fits its 64 bits rose by one for each end
-abbrev pub AcceptsEach : {L : Type 0} → (List Header → Type 0) → (List Header → List ℕ → Reply → Type 0) → Told L → (accepted accepted' : ℕ) → (links links' : Option (List L)) → (f f' : ℕ) → List ConnEnd → Type 0
+abbrev pub AcceptsEach : {L : Type 0} → (List Header → Type 0) → (List Header → List ℕ → Reply → Type 0) → Told L → (accepted accepted' : ℕ)
+    → (links links' : Option (List L)) → (f f' : ℕ) → List ConnEnd → Type 0
 AcceptsEach deny give t accepted accepted' links links' f f' ends =
     accepted + length ends < 2 ^ 64 → (accepted' ≡ accepted + length ends) × IfSome links (λ olds. IfSome links' (λ news. ServedBehind deny give t accepted f f' olds news ends))
 
@@ -69,7 +70,9 @@ LinesBy old new ends (Err refusal.Memory) = (n : ℕ) × Appends old new (lines_
 
 -- so many connections were to be served, and these ended. The door accepted one more for each end, and where it tells its
 -- links, each told link was served in its turn.
-pub record Serves {L : Type 0} (deny : List Header → Type 0) (give : List Header → List ℕ → Reply → Type 0) (t : Told L) (connections : ℕ) (accepted accepted' : ℕ) (links links' : Option (List L)) (f f' : ℕ) (written written' : Option (List ℕ)) (result : Result (Unit {0}) ServeRefusal) : Type 0 where
+pub record Serves {L : Type 0} (deny : List Header → Type 0) (give : List Header → List ℕ → Reply → Type 0) (t : Told L) (connections : ℕ)
+    (accepted accepted' : ℕ) (links links' : Option (List L)) (f f' : ℕ) (written written' : Option (List ℕ))
+    (result : Result (Unit {0}) ServeRefusal) : Type 0 where
   pub ends : List ConnEnd
   pub few : length ends ≤ connections
   pub all : OnOk result (length ends ≡ connections)
@@ -78,7 +81,8 @@ pub record Serves {L : Type 0} (deny : List Header → Type 0) (give : List Head
   pub told : AcceptsEach deny give t accepted accepted' links links' f f' ends
 
 -- the first n connections were served, and their lines were written
-pub record RanOn {L : Type 0} (deny : List Header → Type 0) (give : List Header → List ℕ → Reply → Type 0) (t : Told L) (n : ℕ) (accepted accepted' : ℕ) (links links' : Option (List L)) (f f' : ℕ) (written written' : Option (List ℕ)) : Type 0 where
+pub record RanOn {L : Type 0} (deny : List Header → Type 0) (give : List Header → List ℕ → Reply → Type 0) (t : Told L) (n : ℕ)
+    (accepted accepted' : ℕ) (links links' : Option (List L)) (f f' : ℕ) (written written' : Option (List ℕ)) : Type 0 where
   pub ends : List ConnEnd
   pub count : length ends ≡ n
   pub lines : Appends written written' (lines_from 1 ends)

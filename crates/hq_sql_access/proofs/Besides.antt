@@ -35,21 +35,42 @@ beside_last (k ∷ js) j w n (Some r ∷ rs) = beside_last js j w (with_alias n 
 module _ (all before : List Join) (join : Join) (w : World) (n : Names) (rs : List (Option NamedRow)) (is : all ≡ before ++ join ∷ []) where
   -- what is in scope at an alias: the last join decides where it has that name
   beside_at : (alias : List ℕ) → beside (joins_of (map join_view all)) w n rs alias
-      ≡ cond (bytes_eq (join_view join).alias alias) (unwrap_or (joined_at rs (length before)) (first_row (rows_of (join_view join).select w (beside (joins_of (map join_view before)) w n rs)))) (beside (joins_of (map join_view before)) w n rs alias)
+      ≡ cond (bytes_eq (join_view join).alias alias)
+      (unwrap_or (joined_at rs (length before))
+      (first_row (rows_of (join_view join).select w (beside (joins_of (map join_view before)) w n rs))))
+      (beside (joins_of (map join_view before)) w n rs alias)
   beside_at alias =
       ap (λ js. beside (joins_of (map join_view js)) w n rs alias) is
       ∙ ap (λ js. beside (joins_of js) w n rs alias) (map-append join_view before (join ∷ []))
       ∙ ap (λ scope. scope alias) (beside_last (map join_view before) (join_view join) w n rs)
-      ∙ ap (λ k. cond (bytes_eq (join_view join).alias alias) (unwrap_or (joined_at rs k) (first_row (rows_of (join_view join).select w (beside (joins_of (map join_view before)) w n rs)))) (beside (joins_of (map join_view before)) w n rs alias)) (length-map before join_view)
+      ∙ ap
+      (λ k. cond (bytes_eq (join_view join).alias alias)
+      (unwrap_or (joined_at rs k) (first_row (rows_of (join_view join).select w (beside (joins_of (map join_view before)) w n rs))))
+      (beside (joins_of (map join_view before)) w n rs alias))
+      (length-map before join_view)
 
   -- another one
   pub beside_other : (alias : List ℕ) → bytes_eq (join_view join).alias alias ≡ false → beside (joins_of (map join_view all)) w n rs alias ≡ beside (joins_of (map join_view before)) w n rs alias
-  beside_other alias e = beside_at alias ∙ ap (λ b. cond b (unwrap_or (joined_at rs (length before)) (first_row (rows_of (join_view join).select w (beside (joins_of (map join_view before)) w n rs)))) (beside (joins_of (map join_view before)) w n rs alias)) e
+  beside_other alias e =
+      beside_at alias
+      ∙ ap
+      (λ b. cond b
+      (unwrap_or (joined_at rs (length before))
+      (first_row (rows_of (join_view join).select w (beside (joins_of (map join_view before)) w n rs))))
+      (beside (joins_of (map join_view before)) w n rs alias))
+      e
 
   -- this one
   pub beside_own : (alias : List ℕ) → bytes_eq (join_view join).alias alias ≡ true
       → beside (joins_of (map join_view all)) w n rs alias ≡ unwrap_or (joined_at rs (length before)) (first_row (rows_of (join_view join).select w (beside (joins_of (map join_view before)) w n rs)))
-  beside_own alias e = beside_at alias ∙ ap (λ b. cond b (unwrap_or (joined_at rs (length before)) (first_row (rows_of (join_view join).select w (beside (joins_of (map join_view before)) w n rs)))) (beside (joins_of (map join_view before)) w n rs alias)) e
+  beside_own alias e =
+      beside_at alias
+      ∙ ap
+      (λ b. cond b
+      (unwrap_or (joined_at rs (length before))
+      (first_row (rows_of (join_view join).select w (beside (joins_of (map join_view before)) w n rs))))
+      (beside (joins_of (map join_view before)) w n rs alias))
+      e
 
 -- ---- a join that is put off is given the row that it stands for
 
@@ -68,13 +89,15 @@ put_longer rows more at row grows short =
     ∙ put_padded (map (option_map made_view) rows) at row (omega (arith, same))
 
 -- where it has a place, that is taken
-pub put_set : (rows : List (Option Made)) (at : ℕ) (row : Made) → at < length rows → map (option_map made_view) (set rows at (Some row)) ≡ put_joined (map (option_map made_view) rows) at (made_view row)
+pub put_set : (rows : List (Option Made)) (at : ℕ) (row : Made) → at < length rows
+    → map (option_map made_view) (set rows at (Some row)) ≡ put_joined (map (option_map made_view) rows) at (made_view row)
 put_set [] at row lt = absurd (omega arith)
 put_set (r ∷ rows) zero row lt = refl
 put_set (r ∷ rows) (suc at) row lt = ap (λ l. option_map made_view r ∷ l) (put_set rows at row (omega arith))
 
 -- what is in scope stays the same
-beside_put : (js : List JoinTree) (at : ℕ) (d : JoinTree) (w : World) (n : Names) (rs : List (Option NamedRow)) (row : NamedRow) → at < length js → joined_at rs at ≡ None → row ≡ first_row (rows_of (get_or js at d).select w (beside (joins_of (take at js)) w n rs))
+beside_put : (js : List JoinTree) (at : ℕ) (d : JoinTree) (w : World) (n : Names) (rs : List (Option NamedRow)) (row : NamedRow)
+    → at < length js → joined_at rs at ≡ None → row ≡ first_row (rows_of (get_or js at d).select w (beside (joins_of (take at js)) w n rs))
     → beside (joins_of js) w n (put_joined rs at row) ≡ beside (joins_of js) w n rs
 beside_put [] at d w n rs row lt off is = absurd (omega arith)
 beside_put (j ∷ js) zero d w n [] row lt off is = ap (λ r. beside (joins_of js) w (with_alias n j.alias r) []) is
@@ -85,12 +108,16 @@ beside_put (j ∷ js) (suc at) d w n (None ∷ rs) row lt off is = beside_put js
 beside_put (j ∷ js) (suc at) d w n (Some r ∷ rs) row lt off is = beside_put js at d w (with_alias n j.alias r) rs row (omega arith) off is
 
 -- the same among joins as they lie in memory
-pub beside_filled : (joins : List Join) (at : ℕ) (join : Join) (w : World) (n : Names) (rs : List (Option NamedRow)) (row : NamedRow) → at < length joins → join ≡ get_or joins at join → joined_at rs at ≡ None
-    → row ≡ first_row (rows_of (join_view join).select w (beside (joins_of (map join_view (take at joins))) w n rs)) → beside (joins_of (map join_view joins)) w n (put_joined rs at row) ≡ beside (joins_of (map join_view joins)) w n rs
+pub beside_filled : (joins : List Join) (at : ℕ) (join : Join) (w : World) (n : Names) (rs : List (Option NamedRow)) (row : NamedRow)
+    → at < length joins → join ≡ get_or joins at join → joined_at rs at ≡ None
+    → row ≡ first_row (rows_of (join_view join).select w (beside (joins_of (map join_view (take at joins))) w n rs))
+    → beside (joins_of (map join_view joins)) w n (put_joined rs at row) ≡ beside (joins_of (map join_view joins)) w n rs
 beside_filled joins at join w n rs row lt item off is =
     let long = length-map joins join_view in
     beside_put (map join_view joins) at (join_view join) w n rs row (omega (arith, long)) off
-    (is ∙ ap₂ (λ j js. first_row (rows_of j.select w (beside (joins_of js) w n rs))) (ap join_view item ∙ sym (get_or-map join_view joins at join (join_view join) lt)) (sym (take-map join_view at joins)))
+    (is
+    ∙ ap₂ (λ j js. first_row (rows_of j.select w (beside (joins_of js) w n rs)))
+    (ap join_view item ∙ sym (get_or-map join_view joins at join (join_view join) lt)) (sym (take-map join_view at joins)))
 
 total_append : (ms ns : List ℕ) → total (ms ++ ns) ≡ total ms + total ns
 total_append [] ns = omega arith
@@ -114,7 +141,8 @@ weight_last all before join is =
     ap (λ js. total (map join_weight js)) is ∙ ap total (map-append join_weight before (join ∷ [])) ∙ (omega (arith, last))
 
 -- as much as one of them and those before it, at least
-pub weight_before : (joins : List Join) (at : ℕ) (join : Join) → at < length joins → join ≡ get_or joins at join → total (map join_weight (take at joins)) + join_weight join ≤ total (map join_weight joins)
+pub weight_before : (joins : List Join) (at : ℕ) (join : Join) → at < length joins → join ≡ get_or joins at join
+    → total (map join_weight (take at joins)) + join_weight join ≤ total (map join_weight joins)
 weight_before [] at join lt is = absurd (omega arith)
 weight_before (j ∷ joins) zero join lt is = let same = ap join_weight is in omega (arith, same)
 weight_before (j ∷ joins) (suc at) join lt is = let later = weight_before joins at join (omega arith) is in omega (arith, later)

@@ -65,7 +65,8 @@ chunked_one vs = ap₂ (chunked 1) (sym (length-map vs (λ v. v ∷ []))) (sym (
 pub ones_few : (n count : ℕ) (vs : List Val) (g : List (List Val)) → count ≡ n → n < 2 ^ 31 → g ≡ chunked 1 count vs → length g < 2 ^ 32
 ones_few n count vs g e lt is = let long = ap length is ∙ length-chunked 1 count vs in omega (arith, long, lt, e)
 
-pub constants_are : (vs : List Val) (count : ℕ) (s : Constants) → count ≡ length vs → rows_in s.grid ≡ chunked 1 count vs → IsOver (rows_in s.grid) s.index → columns_of s.index ≡ 0 ∷ [] → AreConstants vs s
+pub constants_are : (vs : List Val) (count : ℕ) (s : Constants) → count ≡ length vs → rows_in s.grid ≡ chunked 1 count vs
+    → IsOver (rows_in s.grid) s.index → columns_of s.index ≡ 0 ∷ [] → AreConstants vs s
 constants_are vs count s e is over own = record { over = over; columns = own; rows = is ∙ ap (λ n. chunked 1 n vs) e ∙ chunked_one vs }
 
 -- ---- a look-up among them
@@ -104,7 +105,8 @@ has_one vs s x are =
 
 -- ---- the places, one after the other
 
-pub places_more : (q : ℕ → Bool) (ps : List ℕ) (i p : ℕ) (places more : List ℕ) → i < length ps → p ≡ get_or ps i 0 → places ≡ filter q (take i ps) → more ≡ places ++ filter q (p ∷ []) → more ≡ filter q (take (i + 1) ps)
+pub places_more : (q : ℕ → Bool) (ps : List ℕ) (i p : ℕ) (places more : List ℕ) → i < length ps → p ≡ get_or ps i 0
+    → places ≡ filter q (take i ps) → more ≡ places ++ filter q (p ∷ []) → more ≡ filter q (take (i + 1) ps)
 places_more q ps i p places more lt is so_far grown =
     let longer : take (i + 1) ps ≡ take i ps ++ p ∷ [] = ap (λ n. take n ps) (add-one i) ∙ take-suc ps i 0 lt ∙ ap (λ d. take i ps ++ d ∷ []) (sym is) in
     grown ∙ ap (λ l. l ++ filter q (p ∷ [])) so_far ∙ sym (filter-append q (take i ps) (p ∷ [])) ∙ ap (filter q) (sym longer)
@@ -115,8 +117,12 @@ places_end q ps i places le so_far = so_far ∙ ap (filter q) (take_all i ps le)
 -- ---- what WHERE keeps
 
 -- places at whose rows a column is none of the constants that a condition asks it to be may be left out
-pub sifted_is : (columns : List Column) (rows : List Row) (js : JoinTrees) (alias name : List ℕ) (p : PredTree) (vs : List Val) (at : ℕ) (s : Constants) (ps : List ℕ) → AsksOneOf p alias name vs → position (λ c. bytes_eq c.name name) columns ≡ Some at → AreConstants vs s → is_joined js alias ≡ false
-    → KeepsSame js alias (tree.filter p) (map (λ q. get_or (map (named_row columns) rows) q []) (filter (λ k. has_constant s (cell_in (get_or rows k []) at)) ps)) (map (λ q. get_or (map (named_row columns) rows) q []) ps)
+pub sifted_is : (columns : List Column) (rows : List Row) (js : JoinTrees) (alias name : List ℕ) (p : PredTree) (vs : List Val) (at : ℕ)
+    (s : Constants) (ps : List ℕ)
+    → AsksOneOf p alias name vs → position (λ c. bytes_eq c.name name) columns ≡ Some at → AreConstants vs s → is_joined js alias ≡ false
+    → KeepsSame js alias (tree.filter p)
+    (map (λ q. get_or (map (named_row columns) rows) q []) (filter (λ k. has_constant s (cell_in (get_or rows k []) at)) ps))
+    (map (λ q. get_or (map (named_row columns) rows) q []) ps)
 sifted_is columns rows js alias name p vs at s ps asked first are alone =
     let f : ℕ → NamedRow = λ q. get_or (map (named_row columns) rows) q [] in
     let q : ℕ → Bool = λ k. has_constant s (cell_in (get_or rows k []) at) in
@@ -128,11 +134,16 @@ sifted_is columns rows js alias name p vs at s ps asked first are alone =
     false≢true (sym out ∙ sym (has_one vs s (get_or (get_or rows k []) at val.Null) are) ∙ ap (is_one_of vs) (sym cell) ∙ one) in
     let none : (w : World) (n : Names) (k : ℕ) → q k ≡ false → filter (kept (tree.filter p) w) (joined js w (with_alias n alias (f k))) ≡ [] =
     λ w n k out. none_kept (kept (tree.filter p) w) (joined js w (with_alias n alias (f k)))
-    (each_weaken (Keeps js (with_alias n alias (f k))) (λ m. kept (tree.filter p) w m ≡ true → ⊥) (λ m around. never w n k out m around) (joined js w (with_alias n alias (f k))) (joined_keeps js w (with_alias n alias (f k)))) in
+    (each_weaken (Keeps js (with_alias n alias (f k))) (λ m. kept (tree.filter p) w m ≡ true → ⊥) (λ m around. never w n k out m around)
+    (joined js w (with_alias n alias (f k))) (joined_keeps js w (with_alias n alias (f k))))
+    in
     record { same = λ w n. left_out js w n alias (kept (tree.filter p) w) f q (none w n) ps }
 
 -- the same of rows that are lent
-pub sifted_at : (columns : List Column) (rows lent : List Row) (js : JoinTrees) (alias name : List ℕ) (p : PredTree) (vs : List Val) (at : ℕ) (s : Constants) (ps places : List ℕ) → lent ≡ rows → AsksOneOf p alias name vs → position (λ c. bytes_eq c.name name) columns ≡ Some at → AreConstants vs s → is_joined js alias ≡ false
+pub sifted_at : (columns : List Column) (rows lent : List Row) (js : JoinTrees) (alias name : List ℕ) (p : PredTree) (vs : List Val)
+    (at : ℕ) (s : Constants) (ps places : List ℕ)
+    → lent ≡ rows → AsksOneOf p alias name vs → position (λ c. bytes_eq c.name name) columns ≡ Some at → AreConstants vs s
+    → is_joined js alias ≡ false
     → places ≡ filter (λ k. has_constant s (cell_in (get_or rows k []) at)) ps
     → KeepsSame js alias (tree.filter p) (map (λ q. get_or (map (named_row columns) lent) q []) places) (map (λ q. get_or (map (named_row columns) lent) q []) ps)
 sifted_at columns rows lent js alias name p vs at s ps places same asked first are alone chosen =
@@ -142,18 +153,28 @@ sifted_at columns rows lent js alias name p vs at s ps places same asked first a
 
 -- what a scan finds at its places it finds at others of which WHERE keeps the same
 still_finds : (js : JoinTrees) (scope : Scope) (alias : List ℕ) (parts : Parts) (source : Source) (looked : Looked) (positions : Positions) → Finds js scope alias parts source looked
-    → ((w : World) → kept_of js w (scope_of scope w) alias (kept (filter_view parts.filter.now) w) (rows_at source positions) ≡ kept_of js w (scope_of scope w) alias (kept (filter_view parts.filter.now) w) (rows_at source (places_looked looked)))
+    →
+    ((w : World)
+    → kept_of js w (scope_of scope w) alias (kept (filter_view parts.filter.now) w) (rows_at source positions)
+    ≡ kept_of js w (scope_of scope w) alias (kept (filter_view parts.filter.now) w) (rows_at source (places_looked looked)))
     → Finds js scope alias parts source (with_places looked positions)
 still_finds js scope alias parts source (Arranged at) positions finds same = λ w. same w ∙ finds w
 still_finds js scope alias parts source (Sorted at) positions finds same = λ w. same w ∙ finds w
 still_finds js scope alias parts source (Unsorted at) positions finds same = λ w. same w ∙ finds w
 
 -- what a scan finds at its places it finds at those that are left
-pub left_finds : (js : JoinTrees) (scope : Scope) (alias : List ℕ) (parts : Parts) (source : Source) (looked : Looked) (left : Option (Vec ℕ)) (again : Looked) → Finds js scope alias parts source looked
-    → IfSome left (λ places. KeepsSame js alias (filter_view parts.filter.now) (map (row_in source) places.items) (rows_at source (places_looked looked))) → IsLeft looked left again → Finds js scope alias parts source again
+pub left_finds : (js : JoinTrees) (scope : Scope) (alias : List ℕ) (parts : Parts) (source : Source) (looked : Looked)
+    (left : Option (Vec ℕ)) (again : Looked)
+    → Finds js scope alias parts source looked
+    → IfSome left
+    (λ places. KeepsSame js alias (filter_view parts.filter.now) (map (row_in source) places.items)
+    (rows_at source (places_looked looked)))
+    → IsLeft looked left again → Finds js scope alias parts source again
 left_finds js scope alias parts source looked None again finds keeps is = subst (Finds js scope alias parts source) (sym is) finds
 left_finds js scope alias parts source looked (Some places) again finds keeps is =
     let positions = places_looked again in
-    let same : (w : World) → kept_of js w (scope_of scope w) alias (kept (filter_view parts.filter.now) w) (rows_at source positions) ≡ kept_of js w (scope_of scope w) alias (kept (filter_view parts.filter.now) w) (rows_at source (places_looked looked)) =
+    let same : (w : World)
+    → kept_of js w (scope_of scope w) alias (kept (filter_view parts.filter.now) w) (rows_at source positions)
+    ≡ kept_of js w (scope_of scope w) alias (kept (filter_view parts.filter.now) w) (rows_at source (places_looked looked)) =
     λ w. ap (λ l. kept_of js w (scope_of scope w) alias (kept (filter_view parts.filter.now) w) (map (row_in source) l)) is.1 ∙ keeps.same w (scope_of scope w) in
     subst (Finds js scope alias parts source) (sym is.0) (still_finds js scope alias parts source looked positions finds same)

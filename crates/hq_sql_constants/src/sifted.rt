@@ -43,7 +43,10 @@ fn sifted_by<'d>(
     requires joined { is_joined (joins_of (map join_view joins.now)) alias.now ≡ false }
     requires rows { rows_lent stored.now.rows ≡ rows.now }
     requires asks { AsksOneOf (pred_view pred.now) alias.now asked.name.now asked.values.items }
-    ensures { IfOk result (λ found. IfSome found (λ places. KeepsSame (joins_of (map join_view joins.now)) alias.now (filtered (pred_view pred.now)) (map (row_in (source.Stored stored.entry)) places.items) (rows_at (source.Stored stored.entry) positions.entry))) }
+    ensures { IfOk result
+        (λ found. IfSome found
+        (λ places. KeepsSame (joins_of (map join_view joins.now)) alias.now (filtered (pred_view pred.now))
+        (map (row_in (source.Stored stored.entry)) places.items) (rows_at (source.Stored stored.entry) positions.entry))) }
 {
     let Some(at) = first_named(stored.table.columns.as_slice(), asked.name) else {
         return Ok(None);
@@ -66,7 +69,10 @@ fn sifted_rows<'d>(
     positions: Positions<'_>,
 ) -> Result<Option<Vec<u32>>, Memory>
     requires { is_joined (joins_of (map join_view joins.now)) alias.now ≡ false }
-    ensures { IfOk result (λ found. IfSome found (λ places. KeepsSame (joins_of (map join_view joins.now)) alias.now (filtered (pred_view pred.now)) (map (row_in (source.Stored stored.entry)) places.items) (rows_at (source.Stored stored.entry) positions.entry))) }
+    ensures { IfOk result
+        (λ found. IfSome found
+        (λ places. KeepsSame (joins_of (map join_view joins.now)) alias.now (filtered (pred_view pred.now))
+        (map (row_in (source.Stored stored.entry)) places.items) (rows_at (source.Stored stored.entry) positions.entry))) }
 {
     let Some(rows) = stored.rows else {
         return Ok(None);
@@ -87,7 +93,10 @@ fn sifted<'s, 'd>(
     filter: &Option<Pred>,
     positions: Positions<'_>,
 ) -> Result<Option<Vec<u32>>, Memory>
-    ensures { IfOk result (λ found. IfSome found (λ places. KeepsSame (joins_of (map join_view joins.now)) alias.now (filter_view filter.now) (map (row_in source.entry) places.items) (rows_at source.entry positions.entry))) }
+    ensures { IfOk result
+        (λ found. IfSome found
+        (λ places. KeepsSame (joins_of (map join_view joins.now)) alias.now (filter_view filter.now)
+        (map (row_in source.entry) places.items) (rows_at source.entry positions.entry))) }
 {
     let (Source::Stored(stored), Some(pred)) = (source, filter) else {
         return Ok(None);
@@ -108,7 +117,10 @@ pub fn left_of<'s, 'd>(
     filter: &Option<Pred>,
     looked: Looked<'_>,
 ) -> Result<Option<Vec<u32>>, Memory>
-    ensures { IfOk result (λ found. IfSome found (λ places. KeepsSame (joins_of (map join_view joins.now)) alias.now (filter_view filter.now) (map (row_in source.entry) places.items) (rows_at source.entry (places_looked looked.entry)))) }
+    ensures { IfOk result
+        (λ found. IfSome found
+        (λ places. KeepsSame (joins_of (map join_view joins.now)) alias.now (filter_view filter.now)
+        (map (row_in source.entry) places.items) (rows_at source.entry (places_looked looked.entry)))) }
 {
     match looked {
         Looked::Arranged(positions) | Looked::Sorted(positions) | Looked::Unsorted(positions) => {

@@ -33,8 +33,10 @@ flat_alone w [] = refl
 flat_alone w (m ∷ ms) = flat_map-cons (joined no_join w) m ms ∙ ap (λ l. m ∷ l) (flat_alone w ms)
 
 -- a select over a table without joins and pages has a row where its WHERE keeps one
-pub filters_is : (D : List ExprTree) (O : List OutTree) (F : FromTree) (J : JoinTrees) (p : PredTree) (K : List OrderTree) (w : World) (has : PredTree) (select : SelectTree) (schema name alias : List ℕ) (columns : List Column) (rows : List Row)
-    → has ≡ tree.exists select → select ≡ tree.rows D O F J (tree.filter p) K None None → F ≡ tree.table schema name alias → J ≡ no_join → rows_given F w [] ≡ map (named_row columns) rows → Filters w has columns rows alias p
+pub filters_is : (D : List ExprTree) (O : List OutTree) (F : FromTree) (J : JoinTrees) (p : PredTree) (K : List OrderTree) (w : World)
+    (has : PredTree) (select : SelectTree) (schema name alias : List ℕ) (columns : List Column) (rows : List Row)
+    → has ≡ tree.exists select → select ≡ tree.rows D O F J (tree.filter p) K None None → F ≡ tree.table schema name alias → J ≡ no_join
+    → rows_given F w [] ≡ map (named_row columns) rows → Filters w has columns rows alias p
 filters_is D O F J p K w has select schema name alias columns rows is sel at alone given n =
     let C = tree.filter p in
     let f : NamedRow → Scope = with_alias n alias in
@@ -50,7 +52,8 @@ filters_is D O F J p K w has select schema name alias columns rows is sel at alo
     ∙ any_map_of (λ row. kept C w (f row)) g rows)
 
 -- truths by the keys that are known of a condition are those of the condition
-pub keyed_rows : (w : World) (p : PredTree) (s : KeySet) (before truths : List Bool) (alias : List ℕ) (rows : List NamedRow) → IsKeySet w p s → truths ≡ narrowed before (map (λ row. keeps_key s (with_alias nothing alias row)) rows)
+pub keyed_rows : (w : World) (p : PredTree) (s : KeySet) (before truths : List Bool) (alias : List ℕ) (rows : List NamedRow)
+    → IsKeySet w p s → truths ≡ narrowed before (map (λ row. keeps_key s (with_alias nothing alias row)) rows)
     → truths ≡ narrowed before (map (λ row. kept_one p w (with_alias nothing alias row)) rows)
 keyed_rows w p s before truths alias rows is e =
     e ∙ ap (narrowed before) (map_same (λ row. keeps_key s (with_alias nothing alias row)) (λ row. kept_one p w (with_alias nothing alias row)) rows
@@ -70,7 +73,8 @@ any_chosen p q (row ∷ rows) =
     go (p row)
 
 -- where the other conjuncts are links, it has a row where a row at which the closed ones are true has their key
-pub keeps_keys : (w : World) (has : PredTree) (columns : List Column) (rows : List Row) (alias : List ℕ) (p : PredTree) (m : ℕ) (closed rest : List (Bor Pred)) (truths : List Bool) (own : List ℕ) (links : List (Bor Expr))
+pub keeps_keys : (w : World) (has : PredTree) (columns : List Column) (rows : List Row) (alias : List ℕ) (p : PredTree) (m : ℕ)
+    (closed rest : List (Bor Pred)) (truths : List Bool) (own : List ℕ) (links : List (Bor Expr))
     → Filters w has columns rows alias p → IsSplit (alias ∷ []) (kept_one p) m [] [] closed rest → AreLinks columns alias (lent_views rest) own links
     → truths ≡ map (λ row. all_kept (lent_views closed) w (with_alias nothing alias row)) (map (named_row columns) rows) → KeepsKeys w has rows truths own links
 keeps_keys w has columns rows alias p m closed rest truths own links filters x are e =

@@ -39,7 +39,8 @@ pub means_pinned : (s : SelectTree) (tables : List Table) (rows : ℕ → List R
 means_pinned s tables rows own d law has_own has = law own d (λ t is. has_own t is ∙ sym (has t is))
 
 -- the rows that are pinned of a table are valid for it
-pub valid_rows : (tables : List Table) (at : ℕ) (table : Table) (rows : List Row) → slice_get tables at ≡ Some table → IfSome (slice_get tables at) (λ t. are_rows t rows ≡ true) → are_rows table rows ≡ true
+pub valid_rows : (tables : List Table) (at : ℕ) (table : Table) (rows : List Row) → slice_get tables at ≡ Some table
+    → IfSome (slice_get tables at) (λ t. are_rows t rows ≡ true) → are_rows table rows ≡ true
 valid_rows tables at table rows e h = rw e at h
 
 -- a table of the catalog stands at its place

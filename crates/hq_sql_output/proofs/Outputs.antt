@@ -23,7 +23,9 @@ column_output alias of name form os e h k outer names =
     ap (λ b. cell_named (cond b (outputs os [] names) (outer of)) name) h ∙ output_is os name names ∙ ap (λ o. value_in o names) (sym k)
 
 -- so has the output that was found, where one was
-pub some_output : {A : Type 0} (view : A → ExprTree) (found : Option A) (alias of name : List ℕ) (form : ColumnForm) (os : List OutTree) → bytes_eq alias of ≡ true → option_map view found ≡ output_in os name → IfSome found (λ e. IsOutput alias os (column of name form) (view e))
+pub some_output : {A : Type 0} (view : A → ExprTree) (found : Option A) (alias of name : List ℕ) (form : ColumnForm) (os : List OutTree)
+    → bytes_eq alias of ≡ true → option_map view found ≡ output_in os name
+    → IfSome found (λ e. IsOutput alias os (column of name form) (view e))
 some_output view None alias of name form os h k = tt
 some_output view (Some e) alias of name form os h k = column_output alias of name form os (view e) h k
 

@@ -102,8 +102,10 @@ each_counted P from (suc n) h = (h from (omega arith) (omega arith), each_counte
 
 pub apart_counted : (R : ℕ → ℕ → Ordering) (from n : ℕ) → ((i j : ℕ) → i < j → j < from + n → is_eq (R i j) ≡ false) → Apart R (counted from n)
 apart_counted R from zero h = tt
-apart_counted R from (suc n) h =
-    (each_counted (λ j. is_eq (R from j) ≡ false) (suc from) n (λ j le lt. h from j (omega (arith, le)) (omega (arith, lt))), apart_counted R (suc from) n (λ i j lt below. h i j lt (omega (arith, below))))
+apart_counted R from (suc n) h = (
+  each_counted (λ j. is_eq (R from j) ≡ false) (suc from) n (λ j le lt. h from j (omega (arith, le)) (omega (arith, lt))),
+  apart_counted R (suc from) n (λ i j lt below. h i j lt (omega (arith, below))),
+)
 
 -- ---- the rows of a table
 

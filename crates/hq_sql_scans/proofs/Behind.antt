@@ -81,7 +81,8 @@ own_ties alias o is =
 -- ---- rows by their keys
 
 -- with no key behind
-pub orders_alone : (desc : Bool) (columns : List Column) (rows : List Row) (alias : List ℕ) (cs : List ℕ) (os : List OrderTree) → OrdersBy desc columns alias cs os → OrdersRows desc columns rows alias cs os
+pub orders_alone : (desc : Bool) (columns : List Column) (rows : List Row) (alias : List ℕ) (cs : List ℕ) (os : List OrderTree)
+    → OrdersBy desc columns alias cs os → OrdersRows desc columns rows alias cs os
 orders_alone desc columns rows alias cs os by =
     record { orders = λ i j m n li lj here there whole all. by.orders (get_or rows i []) (get_or rows j []) m n here there whole all }
 
@@ -98,7 +99,9 @@ module _ (rows : List Row) (cs : List ℕ) where
   towards_apart false i j e = e
 
   -- behind a key in which no two rows are alike, with keys behind that tie at one row
-  pub orders_behind : (desc : Bool) (columns : List Column) (alias : List ℕ) (first more : List OrderTree) → OrdersBy desc columns alias cs first → TiesAt alias more → KeysDiffer cs rows (length rows) → OrdersRows desc columns rows alias cs (first ++ more)
+  pub orders_behind : (desc : Bool) (columns : List Column) (alias : List ℕ) (first more : List OrderTree)
+      → OrdersBy desc columns alias cs first → TiesAt alias more → KeysDiffer cs rows (length rows)
+      → OrdersRows desc columns rows alias cs (first ++ more)
   orders_behind desc columns alias first more by tie differ =
       record {
         orders = λ i j m n li lj here there whole all.
@@ -128,5 +131,6 @@ rows_behind desc columns rows alias cs order first more w front back by tie diff
 pub rows_alone : (desc : Bool) (columns : List Column) (rows : List Row) (alias : List ℕ) (cs : List ℕ) (order first more : List Order) (w : ℕ) → first ≡ take w order → more ≡ drop w order
     → OrdersBy desc columns alias cs (map order_view first) → (length more == 0) ≡ true → OrdersRows desc columns rows alias cs (map order_view order)
 rows_alone desc columns rows alias cs order first [] w front back by none =
-    subst (λ os. OrdersRows desc columns rows alias cs os) (sym (append-nil (map order_view first)) ∙ cut order first [] w front back) (orders_alone desc columns rows alias cs (map order_view first) by)
+    subst (λ os. OrdersRows desc columns rows alias cs os) (sym (append-nil (map order_view first)) ∙ cut order first [] w front back)
+    (orders_alone desc columns rows alias cs (map order_view first) by)
 rows_alone desc columns rows alias cs order first (o ∷ more) w front back by none = absurd (false≢true (sym (ne_eqb (length (o ∷ more)) 0 (λ j. absurd (omega arith))) ∙ none))

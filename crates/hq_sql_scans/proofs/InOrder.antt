@@ -60,7 +60,8 @@ towards_more true a b xs ys = refl
 towards_more false a b xs ys = refl
 
 -- the first column of a name is a sort key
-pub key_is : (desc : Bool) (columns : List Column) (at : ℕ) (alias name : List ℕ) (o : OrderTree) → o.desc ≡ desc → position (λ c. bytes_eq c.name name) columns ≡ Some at → is_column alias name o.value ≡ true → IsKey desc columns alias at o
+pub key_is : (desc : Bool) (columns : List Column) (at : ℕ) (alias name : List ℕ) (o : OrderTree) → o.desc ≡ desc
+    → position (λ c. bytes_eq c.name name) columns ≡ Some at → is_column alias name o.value ≡ true → IsKey desc columns alias at o
 key_is desc columns at alias name o directed first is =
     record {
       directed = directed;
@@ -72,14 +73,17 @@ orders_none true columns alias = record { orders = λ row other m n here there w
 orders_none false columns alias = record { orders = λ row other m n here there whole all. refl }
 
 -- one key more in front
-pub orders_more : (desc : Bool) (columns : List Column) (alias : List ℕ) (c : ℕ) (cs : List ℕ) (o : OrderTree) (os : List OrderTree) → IsKey desc columns alias c o → OrdersBy desc columns alias cs os → OrdersBy desc columns alias (c ∷ cs) (o ∷ os)
+pub orders_more : (desc : Bool) (columns : List Column) (alias : List ℕ) (c : ℕ) (cs : List ℕ) (o : OrderTree) (os : List OrderTree)
+    → IsKey desc columns alias c o → OrdersBy desc columns alias cs os → OrdersBy desc columns alias (c ∷ cs) (o ∷ os)
 orders_more desc columns alias c cs o os key rest =
     record {
       orders = λ row other m n here there whole all.
           let first = or_parts (null_test (cell_in row c)) (has_null (key_in cs row)) whole in
           let second = or_parts (null_test (cell_in other c)) (has_null (key_in cs other)) all in
           ap₂ ordering_then
-          (ap₂ (λ a b. key_cmp o.desc o.nulls_first a b) (key.cell row m here) (key.cell other n there) ∙ ap (λ d. key_cmp d o.nulls_first (cell_in row c) (cell_in other c)) key.directed ∙ key_cells desc o.nulls_first (cell_in row c) (cell_in other c) first.0 second.0)
+          (ap₂ (λ a b. key_cmp o.desc o.nulls_first a b) (key.cell row m here) (key.cell other n there)
+          ∙ ap (λ d. key_cmp d o.nulls_first (cell_in row c) (cell_in other c)) key.directed
+          ∙ key_cells desc o.nulls_first (cell_in row c) (cell_in other c) first.0 second.0)
           (rest.orders row other m n here there first.1 second.1)
           ∙ towards_more desc (cell_in row c) (cell_in other c) (key_in cs row) (key_in cs other);
     }
@@ -124,7 +128,9 @@ module _ (columns : List Column) (rows : List Row) (js : JoinTrees) (w : World) 
   each_block alone p =
       let r = get_or (map (named_row columns) rows) p [] in
       each_filter (IsAt p) keeps (joined js w (with_alias n a r))
-      (each_weaken (Keeps js (with_alias n a r)) (IsAt p) (λ m around. around a alone ∙ (ap (λ b. cond b r (n a)) (same_bytes a) ∙ sym (stored_row columns rows p))) (joined js w (with_alias n a r)) (joined_keeps js w (with_alias n a r)))
+      (each_weaken (Keeps js (with_alias n a r)) (IsAt p)
+      (λ m around. around a alone ∙ (ap (λ b. cond b r (n a)) (same_bytes a) ∙ sym (stored_row columns rows p)))
+      (joined js w (with_alias n a r)) (joined_keeps js w (with_alias n a r)))
 
   -- what WHERE keeps of the rows in an order that ORDER BY agrees with is what it keeps of all of them, sorted
   blocks_sorted : (os : List OrderTree) (S : ℕ → ℕ → Ordering) (Whole : ℕ → Type 0) → IsTotalOrder S → is_joined js a ≡ false → Each Whole (counted 0 (length rows))
@@ -150,8 +156,13 @@ module _ (columns : List Column) (rows : List Row) (js : JoinTrees) (w : World) 
       let each = each_left q all many in
       let entries : entries_of index.now ≡ sort R all = turned ∙ ap (sort R) (filter_all q all each) in
       let within : Each (λ k. k < length rows) all = each_counted (λ k. k < length rows) 0 (length rows) (λ k le lt. omega (arith, lt)) in
-      let whole : Each Whole all = each_both (λ k. k < length rows) (λ k. has_null (key_at cs rows k) ≡ false) all within (each_weaken (λ k. q k ≡ true) (λ k. has_null (key_at cs rows k) ≡ false) (λ k e. not_true (has_null (key_at cs rows k)) e) all each) in
-      let walk : (d : Bool) → HasOrder d columns rows a os index.now → kept_of js w n a keeps (map f (positions_of (walked d index))) ≡ sort (order_cmp os) (kept_of js w n a keeps (map (named_row columns) rows)) =
+      let whole : Each Whole all =
+      each_both (λ k. k < length rows) (λ k. has_null (key_at cs rows k) ≡ false) all within
+      (each_weaken (λ k. q k ≡ true) (λ k. has_null (key_at cs rows k) ≡ false) (λ k e. not_true (has_null (key_at cs rows k)) e) all
+      each) in
+      let walk : (d : Bool) → HasOrder d columns rows a os index.now
+      → kept_of js w n a keeps (map f (positions_of (walked d index)))
+      ≡ sort (order_cmp os) (kept_of js w n a keeps (map (named_row columns) rows)) =
       elim [
         | false ↦ λ h. ap (λ ps. kept_of js w n a keeps (map f ps)) entries
             ∙ blocks_sorted os R Whole (by_key_total cs rows) alone whole (λ p r x y pp pr px py. h.orders.orders p r x y pp.0 pr.0 px py pp.1 pr.1)
@@ -196,7 +207,9 @@ standing_some [] n positions long e = let none : n ≡ 0 = long in absurd (false
 standing_some (x ∷ es) n positions long e = refl
 
 pub stands : (js : JoinTrees) (scope : InScope) (alias : List ℕ) (parts : Parts) (source : Source) (positions : Positions) (es : List Expr) → es ≡ parts.distinct.now.items
-    → FindsArranged js scope alias (filter_view parts.filter.now) [] (map order_view parts.order.now.items) source (rows_at source positions) → Finds js scope alias parts source (standing es positions)
+    → FindsArranged js scope alias (filter_view parts.filter.now) [] (map order_view parts.order.now.items) source
+    (rows_at source positions)
+    → Finds js scope alias parts source (standing es positions)
 stands js scope alias parts source positions [] is finds =
     λ w. finds w ∙ ap (λ ds. arranged (map expr_view ds) (map order_view parts.order.now.items) (kept_of js w (scope_of scope w) alias (kept (filter_view parts.filter.now) w) (source_view source))) is
 stands js scope alias parts source positions (e ∷ es) is finds = finds

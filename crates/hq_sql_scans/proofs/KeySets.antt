@@ -51,7 +51,8 @@ more_key links i e scope w key k lt is h j =
 
 -- ---- the cells of a row
 
-pub picked_more : (columns : List ℕ) (i : ℕ) (c : ℕ) (row : Row) → i < length columns → c ≡ get_or columns i c → picked (take i columns) row ++ get_or row c val.Null ∷ [] ≡ picked (take (i + 1) columns) row
+pub picked_more : (columns : List ℕ) (i : ℕ) (c : ℕ) (row : Row) → i < length columns → c ≡ get_or columns i c
+    → picked (take i columns) row ++ get_or row c val.Null ∷ [] ≡ picked (take (i + 1) columns) row
 picked_more columns i c row lt is =
     let longer : take (i + 1) columns ≡ take i columns ++ c ∷ [] = ap (λ n. take n columns) (add-one i) ∙ take-suc columns i c lt ∙ ap (λ d. take i columns ++ d ∷ []) (sym is) in
     sym (map-append (λ c. get_or row c val.Null) (take i columns) (c ∷ [])) ∙ ap (λ cs. picked cs row) (sym longer)
@@ -62,7 +63,8 @@ each_long columns (row ∷ rows) = (length-map columns (λ c. get_or row c val.N
 
 -- ---- the rows that are chosen
 
-chosen_more : (bs : List Bool) (rows : List Row) (i : ℕ) → i < length bs → i < length rows → chosen (take (suc i) bs) (take (suc i) rows) ≡ chosen (take i bs) (take i rows) ++ cond (get_or bs i false) (get_or rows i [] ∷ []) []
+chosen_more : (bs : List Bool) (rows : List Row) (i : ℕ) → i < length bs → i < length rows
+    → chosen (take (suc i) bs) (take (suc i) rows) ≡ chosen (take i bs) (take i rows) ++ cond (get_or bs i false) (get_or rows i [] ∷ []) []
 chosen_more [] rows i h k = absurd (omega arith)
 chosen_more (b ∷ bs) [] i h k = absurd (omega arith)
 chosen_more (true ∷ bs) (row ∷ rows) zero h k = refl
@@ -79,7 +81,8 @@ chosen_few (false ∷ bs) (row ∷ rows) = let later = chosen_few bs rows in ome
 pub gathers_none : (columns : List ℕ) (bs : List Bool) (rows : List Row) → Gathers columns bs rows 0 [] 0
 gathers_none columns bs rows = record { cells = refl; number = refl; few = omega arith }
 
-pub gathers_one : (columns : List ℕ) (bs : List Bool) (rows : List Row) (i : ℕ) (values more : List Val) (count next : ℕ) → i < length bs → length bs ≡ length rows → get_or bs i false ≡ true → Gathers columns bs rows i values count
+pub gathers_one : (columns : List ℕ) (bs : List Bool) (rows : List Row) (i : ℕ) (values more : List Val) (count next : ℕ) → i < length bs
+    → length bs ≡ length rows → get_or bs i false ≡ true → Gathers columns bs rows i values count
     → more ≡ values ++ picked columns (get_or rows i []) → next ≡ count + 1 → Gathers columns bs rows (i + 1) more next
 gathers_one columns bs rows i values more count next lt long is h grown e =
     let row = get_or rows i [] in
@@ -98,7 +101,9 @@ gathers_one columns bs rows i values more count next lt long is h grown e =
       few = omega (arith, few, e);
     }
 
-pub gathers_other : (columns : List ℕ) (bs : List Bool) (rows : List Row) (i : ℕ) (values : List Val) (count : ℕ) → i < length bs → length bs ≡ length rows → get_or bs i false ≡ false → Gathers columns bs rows i values count → Gathers columns bs rows (i + 1) values count
+pub gathers_other : (columns : List ℕ) (bs : List Bool) (rows : List Row) (i : ℕ) (values : List Val) (count : ℕ) → i < length bs
+    → length bs ≡ length rows → get_or bs i false ≡ false → Gathers columns bs rows i values count
+    → Gathers columns bs rows (i + 1) values count
 gathers_other columns bs rows i values count lt long is h =
     let old = chosen (take i bs) (take i rows) in
     let same : chosen (take (i + 1) bs) (take (i + 1) rows) ≡ old =
@@ -162,13 +167,18 @@ keys_among columns key rows =
 
 -- ---- the grid of keys
 
-pub grid_whole : (columns : List ℕ) (bs : List Bool) (rows : List Row) (i : ℕ) (values : List Val) (count width : ℕ) → Gathers columns bs rows i values count → width ≡ length columns → length values ≡ count * width
+pub grid_whole : (columns : List ℕ) (bs : List Bool) (rows : List Row) (i : ℕ) (values : List Val) (count width : ℕ)
+    → Gathers columns bs rows i values count → width ≡ length columns → length values ≡ count * width
 grid_whole columns bs rows i values count width h e =
-    ap length h.cells ∙ length-flat width (map (picked columns) (chosen (take i bs) (take i rows))) (subst (λ n. Each (λ row. length row ≡ n) (map (picked columns) (chosen (take i bs) (take i rows)))) (sym e) (each_long columns (chosen (take i bs) (take i rows))))
+    ap length h.cells
+    ∙ length-flat width (map (picked columns) (chosen (take i bs) (take i rows)))
+    (subst (λ n. Each (λ row. length row ≡ n) (map (picked columns) (chosen (take i bs) (take i rows)))) (sym e)
+    (each_long columns (chosen (take i bs) (take i rows))))
     ∙ ap (λ n. n * width) (length-map (chosen (take i bs) (take i rows)) (picked columns) ∙ sym h.number)
 
 -- its rows are the keys
-pub grid_rows : (columns : List ℕ) (bs : List Bool) (rows : List Row) (values : List Val) (count width : ℕ) (g : List (List Val)) → Gathers columns bs rows (length bs) values count → width ≡ length columns → length bs ≡ length rows
+pub grid_rows : (columns : List ℕ) (bs : List Bool) (rows : List Row) (values : List Val) (count width : ℕ) (g : List (List Val))
+    → Gathers columns bs rows (length bs) values count → width ≡ length columns → length bs ≡ length rows
     → g ≡ chunked width count values → g ≡ map (picked columns) (chosen bs rows)
 grid_rows columns bs rows values count width g h e long is =
     let i = length bs in
@@ -178,14 +188,16 @@ grid_rows columns bs rows values count width g h e long is =
     let same : xs ≡ chosen bs rows = ap₂ chosen (take_all i bs (omega arith)) (take_all i rows (omega (arith, long))) in
     is ∙ ap₂ (λ n vs. chunked width n vs) (h.number ∙ sym (length-map xs (picked columns))) h.cells ∙ chunked_flat width all each ∙ ap (map (picked columns)) same
 
-pub grid_few : (columns : List ℕ) (bs : List Bool) (rows : List Row) (i : ℕ) (values : List Val) (count width : ℕ) (g : List (List Val)) → Gathers columns bs rows i values count → i < 2 ^ 31 → g ≡ chunked width count values → length g < 2 ^ 32
+pub grid_few : (columns : List ℕ) (bs : List Bool) (rows : List Row) (i : ℕ) (values : List Val) (count width : ℕ) (g : List (List Val))
+    → Gathers columns bs rows i values count → i < 2 ^ 31 → g ≡ chunked width count values → length g < 2 ^ 32
 grid_few columns bs rows i values count width g h lt is =
     let long : length g ≡ count = ap length is ∙ length-chunked width count values in
     let few = h.few in
     omega (arith, long, few, lt)
 
 -- the keys with their index are those of the condition
-pub set_is : (w : World) (p : PredTree) (rows : List Row) (bs : List Bool) (columns : List ℕ) (links : List (Bor Expr)) (s : KeySet) → KeepsKeys w p rows bs columns links → s.links.items ≡ links → IsOver (rows_in s.grid) s.index
+pub set_is : (w : World) (p : PredTree) (rows : List Row) (bs : List Bool) (columns : List ℕ) (links : List (Bor Expr)) (s : KeySet)
+    → KeepsKeys w p rows bs columns links → s.links.items ≡ links → IsOver (rows_in s.grid) s.index
     → columns_of s.index ≡ counted 0 (length columns) → rows_in s.grid ≡ map (picked columns) (chosen bs rows) → IsKeySet w p s
 set_is w p rows bs columns links s keeps same over own is =
     record {
@@ -197,6 +209,7 @@ set_is w p rows bs columns links s keeps same over own is =
     }
 
 -- whether one of the keys is that of a scope, as a look-up tells it
-pub told_key : (s : KeySet) (names : Names) (key : List CellTree) (found : List ℕ) → key ≡ link_keys s.links.items names → found ≡ rows_with (columns_of s.index) key (rows_in s.grid) → not (length found == 0) ≡ keeps_key s names
+pub told_key : (s : KeySet) (names : Names) (key : List CellTree) (found : List ℕ) → key ≡ link_keys s.links.items names
+    → found ≡ rows_with (columns_of s.index) key (rows_in s.grid) → not (length found == 0) ≡ keeps_key s names
 told_key s names key found e is =
     items_told found ∙ ap has_items is ∙ ap (λ k. has_items (rows_with (columns_of s.index) k (rows_in s.grid))) e

@@ -81,11 +81,13 @@ equal_swapped a b =
 pub own_column : (alias a n : List ℕ) (form : ColumnForm) → bytes_eq alias a ≡ true → is_column alias n (tree.column a n form) ≡ true
 own_column alias a n form e = rw (e, same_bytes n) refl
 
-pub own_is : (columns : List Column) (at : ℕ) (alias name : List ℕ) (own : ExprTree) → position (λ c. bytes_eq c.name name) columns ≡ Some at → is_column alias name own ≡ true → IsOwn columns alias own at
+pub own_is : (columns : List Column) (at : ℕ) (alias name : List ℕ) (own : ExprTree)
+    → position (λ c. bytes_eq c.name name) columns ≡ Some at → is_column alias name own ≡ true → IsOwn columns alias own at
 own_is columns at alias name own first is = record { cell = λ row m here. column_value alias name own m is ∙ ap (λ r. cell_named r name) here ∙ named_first columns row name at first }
 
 -- the sides of an equation at a row of the alias
-own_at : (columns : List Column) (alias : List ℕ) (own : ExprTree) (at : ℕ) (row : Row) (n : Names) → IsOwn columns alias own at → value own [] (with_alias n alias (named_row columns row)) ≡ cell_in row at
+own_at : (columns : List Column) (alias : List ℕ) (own : ExprTree) (at : ℕ) (row : Row) (n : Names) → IsOwn columns alias own at
+    → value own [] (with_alias n alias (named_row columns row)) ≡ cell_in row at
 own_at columns alias own at row n is = is.cell row (with_alias n alias (named_row columns row)) (ap (λ b. cond b (named_row columns row) (n alias)) (same_bytes alias))
 
 other_at : (columns : List Column) (alias : List ℕ) (e : ExprTree) (row : Row) (n : Names) → is_outer alias no_join e ≡ true → value e [] (with_alias n alias (named_row columns row)) ≡ value e [] n
@@ -96,7 +98,8 @@ other_at columns alias e row n outer =
 equation_is : (l r : ExprTree) (t : Test) (es : List ExprTree) (w : World) (m : Names) → IsEquation t es r → kept_one (tree.test l t es) w m ≡ is_true (equal (value l [] m) (value r [] m))
 equation_is l r t es w m equates = ap₂ (λ u operands. kept_one (tree.test l u operands) w m) equates.test equates.operand
 
-pub link_left : (columns : List Column) (alias : List ℕ) (own e : ExprTree) (t : Test) (es : List ExprTree) (at : ℕ) → IsEquation t es e → IsOwn columns alias own at → is_outer alias no_join e ≡ true → IsLink columns alias (tree.test own t es) at e
+pub link_left : (columns : List Column) (alias : List ℕ) (own e : ExprTree) (t : Test) (es : List ExprTree) (at : ℕ) → IsEquation t es e
+    → IsOwn columns alias own at → is_outer alias no_join e ≡ true → IsLink columns alias (tree.test own t es) at e
 link_left columns alias own e t es at equates is outer =
     record {
       keeps = λ w row n.
@@ -105,7 +108,8 @@ link_left columns alias own e t es at equates is outer =
           ∙ equal_cell (get_or row at val.Null) (value e [] n);
     }
 
-pub link_right : (columns : List Column) (alias : List ℕ) (own e : ExprTree) (t : Test) (es : List ExprTree) (at : ℕ) → IsEquation t es own → IsOwn columns alias own at → is_outer alias no_join e ≡ true → IsLink columns alias (tree.test e t es) at e
+pub link_right : (columns : List Column) (alias : List ℕ) (own e : ExprTree) (t : Test) (es : List ExprTree) (at : ℕ) → IsEquation t es own
+    → IsOwn columns alias own at → is_outer alias no_join e ≡ true → IsLink columns alias (tree.test e t es) at e
 link_right columns alias own e t es at equates is outer =
     record {
       keeps = λ w row n.
@@ -158,7 +162,8 @@ key_like (c ∷ cs) (k ∷ ks) row e =
     ∙ and_turned (null_test k) (has_null ks) (is_eq o) (is_eq p)
     ∙ ap (λ b. has_cell (cell_in row c) k && b) (key_like cs ks row (omega (arith, e)))
 
-like_more : (cs : List ℕ) (ks : List CellTree) (c : ℕ) (k : CellTree) (row : Row) → length cs ≡ length ks → keys_like (cs ++ c ∷ []) (ks ++ k ∷ []) row ≡ (keys_like cs ks row && has_cell (cell_in row c) k)
+like_more : (cs : List ℕ) (ks : List CellTree) (c : ℕ) (k : CellTree) (row : Row) → length cs ≡ length ks
+    → keys_like (cs ++ c ∷ []) (ks ++ k ∷ []) row ≡ (keys_like cs ks row && has_cell (cell_in row c) k)
 like_more [] [] c k row e = and_true (has_cell (cell_in row c) k)
 like_more [] (j ∷ ks) c k row e = cc
 like_more (b ∷ cs) [] c k row e = cc
@@ -176,7 +181,8 @@ length_map f (x ∷ xs) = ap suc (length_map f xs)
 
 -- one more
 pub more_links : (columns : List Column) (alias : List ℕ) (ps : List (Bor Pred)) (i : ℕ) (p : Bor Pred) (own : List ℕ) (links : List (Bor Expr)) (l : Link) → i < length ps → p ≡ get_or ps i p
-    → AreLinks columns alias (lent_views (take i ps)) own links → IsLink columns alias (pred_view p.now) l.column (expr_view l.expr.now) → AreLinks columns alias (lent_views (take (i + 1) ps)) (own ++ l.column ∷ []) (links ++ l.expr ∷ [])
+    → AreLinks columns alias (lent_views (take i ps)) own links → IsLink columns alias (pred_view p.now) l.column (expr_view l.expr.now)
+    → AreLinks columns alias (lent_views (take (i + 1) ps)) (own ++ l.column ∷ []) (links ++ l.expr ∷ [])
 more_links columns alias ps i p own links l lt is so_far link =
     let longer : take (i + 1) ps ≡ take i ps ++ p ∷ [] = ap (λ n. take n ps) (add-one i) ∙ take-suc ps i p lt ∙ ap (λ d. take i ps ++ d ∷ []) (sym is) in
     let short = so_far.long in

@@ -223,7 +223,10 @@ fn index_in_order<'s, 'd>(
     order: &[Order],
     desc: bool,
 ) -> Option<&'d Index>
-    ensures { IfSome result (λ index. (scope : InScope) (f : FilterTree) → FindsArranged (joins_of (map join_view joins.now)) scope alias.now f [] (map order_view order.now) source.entry (rows_at source.entry (walked desc index))) }
+    ensures { IfSome result
+        (λ index. (scope : InScope) (f : FilterTree)
+        → FindsArranged (joins_of (map join_view joins.now)) scope alias.now f [] (map order_view order.now) source.entry
+        (rows_at source.entry (walked desc index))) }
 {
     if is_joined(joins, alias) {
         return None;

@@ -10,7 +10,8 @@ use Rattle.hq_sql_access.specs.Single.{is_single, are_single, is_one_at_most}
 use Rattle.hq_sql_tree.specs.Form.{is_one}
 
 -- a join that is put off has the first row of its select
-pub beside_put_off : (s : SelectTree) (a : List ℕ) (js : JoinTrees) (w : World) (n : Scope) (rs : List (Option NamedRow)) → beside (join s a js) w n (put_off rs) ≡ beside js w (with_alias n a (first_row (rows_of s w n))) rs
+pub beside_put_off : (s : SelectTree) (a : List ℕ) (js : JoinTrees) (w : World) (n : Scope) (rs : List (Option NamedRow))
+    → beside (join s a js) w n (put_off rs) ≡ beside js w (with_alias n a (first_row (rows_of s w n))) rs
 beside_put_off s a js w n [] = refl
 beside_put_off s a js w n (r ∷ rs) = refl
 

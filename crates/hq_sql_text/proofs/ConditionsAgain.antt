@@ -121,7 +121,9 @@ begins_free (tree.aggregate a) rest none = agg_apart a 34 [] rest refl
 -- a value and what is asked of it
 test_alone : (e : ExprTree) (t : Test) (d : ℕ) (rest : List ℕ) → FitsExpr e d → cast_at (expr_text e ++ (word_text (test_word t) ++ rest)) ≡ None
 test_alone (tree.column a n form.Plain) t d rest fits = no_cast_again a n form.Plain (word_text (test_word t) ++ rest) fits.0 fits.1 (test_asks t rest).0.0 (test_no_cast t rest)
-test_alone (tree.column a n form.Collated) t d rest fits = no_cast_again a n form.Collated (word_text (test_word t) ++ rest) fits.0 fits.1 (test_asks t rest).0.0 (collate_no_cast (word_text (test_word t) ++ rest))
+test_alone (tree.column a n form.Collated) t d rest fits =
+    no_cast_again a n form.Collated (word_text (test_word t) ++ rest) fits.0 fits.1 (test_asks t rest).0.0
+    (collate_no_cast (word_text (test_word t) ++ rest))
 test_alone (tree.column a n form.AsText) t d rest fits = unnamed _ (begins_free (tree.column a n form.AsText) (word_text (test_word t) ++ rest) refl)
 test_alone (tree.column a n form.AsTextCollated) t d rest fits = unnamed _ (begins_free (tree.column a n form.AsTextCollated) (word_text (test_word t) ++ rest) refl)
 test_alone (tree.int n) t d rest fits = unnamed _ (begins_free (tree.int n) (word_text (test_word t) ++ rest) refl)
@@ -232,14 +234,17 @@ module _ (d : ℕ) (condition : Reader PredTree) where
   inside_member bytes member none = no_negation bytes member.0 ∙ no_column bytes none ∙ on_true (member_next bytes) (joined_with condition bytes) (tested_at d bytes) member.1
 
   pub inside_tested : (bytes : List ℕ) → NoMember bytes → inside_with d condition bytes ≡ tested_at d bytes
-  inside_tested bytes begins = no_negation bytes begins.0 ∙ no_column bytes (unopened (after word.Open bytes) begins.2) ∙ on_false (member_next bytes) (joined_with condition bytes) (tested_at d bytes) begins.1
+  inside_tested bytes begins =
+      no_negation bytes begins.0 ∙ no_column bytes (unopened (after word.Open bytes) begins.2)
+      ∙ on_false (member_next bytes) (joined_with condition bytes) (tested_at d bytes) begins.1
 
   open_no_not : (rest : List ℕ) → Absent word.Not (word_text word.Open ++ rest)
   unfolding word_text after
   open_no_not rest = refl
 
   -- a column that is written by its text, and what is asked of it
-  pub inside_cast : (a n : List ℕ) (f : ColumnForm) (rest : List ℕ) → FitsExpr (tree.column a n f) d → Asks rest → is_cast f ≡ true → inside_with d condition ((word_text word.Open ++ names_text a n f) ++ rest) ≡ test_with d (tree.column a n f) rest
+  pub inside_cast : (a n : List ℕ) (f : ColumnForm) (rest : List ℕ) → FitsExpr (tree.column a n f) d → Asks rest → is_cast f ≡ true
+      → inside_with d condition ((word_text word.Open ++ names_text a n f) ++ rest) ≡ test_with d (tree.column a n f) rest
   inside_cast a n f rest fits asks cast =
       let later = names_text a n f ++ rest in
       let opened_is : cast_next (word_text word.Open ++ later) ≡ Some (tree.column a n f, rest) = rw (after_again word.Open later) (cast_again a n f rest fits.0 fits.1 asks.0 cast) in
@@ -339,14 +344,22 @@ module _ (d : ℕ) (condition : Reader PredTree) (condition_again : Condition d 
   unfolding inside_with negated_with
   negated_again p rest fits = rw (after_again word.Not (pred_text p ++ (word_text word.Close ++ rest)), condition_again p (word_text word.Close ++ rest) fits, after_again word.Close rest) refl
 
-  others_again : (w : Word) (first p : PredTree) (ps : List PredTree) (rest : List ℕ) → 0 < length (word_text w) → Absent w (word_text word.Close ++ rest) → FitsPred p d → AllByRecursion (λ p. FitsPred p d) ps
+  others_again : (w : Word) (first p : PredTree) (ps : List PredTree) (rest : List ℕ) → 0 < length (word_text w)
+      → Absent w (word_text word.Close ++ rest) → FitsPred p d → AllByRecursion (λ p. FitsPred p d) ps
       → others_with condition w first (separated w (map pred_text (p ∷ ps)) ++ (word_text word.Close ++ rest)) ≡ Some (first ∷ p ∷ ps, rest)
   unfolding others_with
   others_again w first p ps rest some none fits good =
-      rw (all_many_again condition w pred_text (λ p. FitsPred p d) (λ rest. Unit {0}) (λ x rest good u. condition_again x rest good) (λ rest. tt) some p ps (word_text word.Close ++ rest) fits good tt none, after_again word.Close rest) refl
+      rw (
+        all_many_again condition w pred_text (λ p. FitsPred p d) (λ rest. Unit {0}) (λ x rest good u. condition_again x rest good)
+            (λ rest. tt) some p ps (word_text word.Close ++ rest) fits good tt none,
+        after_again word.Close rest,
+      )
+      refl
 
   all_again : (p q : PredTree) (ps : List PredTree) (rest : List ℕ) → FitsPred p d → FitsPred q d → AllByRecursion (λ p. FitsPred p d) ps
-      → inside_with d condition (pred_text p ++ (word_text word.And ++ (separated word.And (map pred_text (q ∷ ps)) ++ (word_text word.Close ++ rest)))) ≡ Some (tree.all_of (preds_of (p ∷ q ∷ ps)), rest)
+      → inside_with d condition
+      (pred_text p ++ (word_text word.And ++ (separated word.And (map pred_text (q ∷ ps)) ++ (word_text word.Close ++ rest))))
+      ≡ Some (tree.all_of (preds_of (p ∷ q ∷ ps)), rest)
   unfolding joined_with
   all_again p q ps rest fits_p fits_q good =
       let later = separated word.And (map pred_text (q ∷ ps)) ++ (word_text word.Close ++ rest) in
@@ -354,14 +367,17 @@ module _ (d : ℕ) (condition : Reader PredTree) (condition_again : Condition d 
       ∙ rw (condition_again p (word_text word.And ++ later) fits_p, after_again word.And later, others_again word.And p q ps rest and_some (close_no_and rest) fits_q good) refl
 
   any_again : (p q : PredTree) (ps : List PredTree) (rest : List ℕ) → FitsPred p d → FitsPred q d → AllByRecursion (λ p. FitsPred p d) ps
-      → inside_with d condition (pred_text p ++ (word_text word.Or ++ (separated word.Or (map pred_text (q ∷ ps)) ++ (word_text word.Close ++ rest)))) ≡ Some (tree.any_of (preds_of (p ∷ q ∷ ps)), rest)
+      → inside_with d condition
+      (pred_text p ++ (word_text word.Or ++ (separated word.Or (map pred_text (q ∷ ps)) ++ (word_text word.Close ++ rest))))
+      ≡ Some (tree.any_of (preds_of (p ∷ q ∷ ps)), rest)
   unfolding joined_with
   any_again p q ps rest fits_p fits_q good =
       let later = separated word.Or (map pred_text (q ∷ ps)) ++ (word_text word.Close ++ rest) in
       inside_member d condition (pred_text p ++ (word_text word.Or ++ later)) (or_member p later) (no_cast p d (word_text word.Or ++ later) fits_p)
       ∙ rw (condition_again p (word_text word.Or ++ later) fits_p, or_alone later, after_again word.Or later, others_again word.Or p q ps rest or_some (close_no_or rest) fits_q good) refl
 
-exists_again : (d : ℕ) (query : Reader SelectTree) → Query d query → (s : SelectTree) (rest : List ℕ) → is_rows s ≡ true → FitsSelect s d → exists_with query (select_text s ++ (word_text word.Close ++ rest)) ≡ Some (tree.exists s, rest)
+exists_again : (d : ℕ) (query : Reader SelectTree) → Query d query → (s : SelectTree) (rest : List ℕ) → is_rows s ≡ true → FitsSelect s d
+    → exists_with query (select_text s ++ (word_text word.Close ++ rest)) ≡ Some (tree.exists s, rest)
 unfolding exists_with
 exists_again d query query_again s rest rows fits = rw (query_again s (word_text word.Close ++ rest) fits (close_ends rest), after_again word.Close rest, rows) refl
 
@@ -384,7 +400,8 @@ module _ (d : ℕ) (condition : Reader PredTree) (query : Reader SelectTree) (co
   in_parentheses : (p : PredTree) (inner text rest : List ℕ) → text ≡ word_text word.Open ++ inner → inside_with d condition inner ≡ Some (p, rest) → deeper text ≡ Some (p, rest)
   in_parentheses p inner text rest is read = ap deeper is ∙ opened (inside_with d condition) query inner ∙ read
 
-  asked_again : (p : PredTree) (l : ExprTree) (later text rest : List ℕ) → text ≡ word_text word.Open ++ (expr_text l ++ later) → FitsExpr l d → Asks later → test_with d l later ≡ Some (p, rest) → deeper text ≡ Some (p, rest)
+  asked_again : (p : PredTree) (l : ExprTree) (later text rest : List ℕ) → text ≡ word_text word.Open ++ (expr_text l ++ later)
+      → FitsExpr l d → Asks later → test_with d l later ≡ Some (p, rest) → deeper text ≡ Some (p, rest)
   asked_again p l later text rest is fits asks read = in_parentheses p (expr_text l ++ later) text rest is (asked d condition condition_again l later fits asks ∙ read)
 
   pub pred_deeper : Condition (suc d) deeper
@@ -402,7 +419,8 @@ module _ (d : ℕ) (condition : Reader PredTree) (query : Reader SelectTree) (co
   pred_deeper (tree.all_of (tree.pred p (tree.pred q ps))) rest fits =
       let listed = separated word.And (map pred_text (q ∷ pred_list ps)) in
       let inner = pred_text p ++ (word_text word.And ++ (listed ++ (word_text word.Close ++ rest))) in
-      let texts : pred_text (tree.all_of (tree.pred p (tree.pred q ps))) ++ rest ≡ (word_text word.Open ++ (separated word.And (map pred_text (p ∷ q ∷ pred_list ps)) ++ word_text word.Close)) ++ rest =
+      let texts : pred_text (tree.all_of (tree.pred p (tree.pred q ps))) ++ rest
+      ≡ (word_text word.Open ++ (separated word.And (map pred_text (p ∷ q ∷ pred_list ps)) ++ word_text word.Close)) ++ rest =
       ap (λ ts. (word_text word.Open ++ (separated word.And (pred_text p ∷ pred_text q ∷ ts) ++ word_text word.Close)) ++ rest) (pred_texts-list ps) in
       let regrouped : (word_text word.Open ++ (separated word.And (map pred_text (p ∷ q ∷ pred_list ps)) ++ word_text word.Close)) ++ rest ≡ word_text word.Open ++ inner = simp append_assoc in
       let tree_is : preds_of (p ∷ q ∷ pred_list ps) ≡ tree.pred p (tree.pred q ps) = ap (λ qs. tree.pred p (tree.pred q qs)) (preds_of-pred_list ps) in
@@ -431,7 +449,8 @@ module _ (d : ℕ) (condition : Reader PredTree) (condition_again : Condition d 
   filter_again tree.no_filter rest fits none = rw none refl
   filter_again (tree.filter p) rest fits none = rw (append_assoc (word_text word.Where) (pred_text p) rest, after_again word.Where (pred_text p ++ rest), condition_again p rest fits) refl
 
-  pub end_again : (f : FilterTree) (keys : List OrderTree) (limit offset : Option ℕ) (rest : List ℕ) → FitsFilter f d → AllByRecursion (GoodOrder d) keys → is_count limit ≡ true → is_count offset ≡ true → Ends rest
+  pub end_again : (f : FilterTree) (keys : List OrderTree) (limit offset : Option ℕ) (rest : List ℕ) → FitsFilter f d
+      → AllByRecursion (GoodOrder d) keys → is_count limit ≡ true → is_count offset ≡ true → Ends rest
       → end_with d condition (behind_text f keys limit offset rest) ≡ Some (record { condition = f; keys = keys; limit = limit; offset = offset }, rest)
   unfolding end_with
   end_again f keys limit offset rest fits good is_limit is_offset ends =

@@ -56,7 +56,11 @@ mutual
       let f3 = and_both (list_all is_expr distinct && nat_le 1 (length outs) && outs_form) (is_from from) f4.0 in
       let f2 = and_both (list_all is_expr distinct && nat_le 1 (length outs)) outs_form f3.0 in
       let f1 = and_both (list_all is_expr distinct) (nat_le 1 (length outs)) f2.0 in
-      let v7 = and_both (list_all expr_fits distinct && list_all out_fits outs && from_fits from && joins_fit joins && filter_fits condition && list_all order_fits keys && is_count limit) (is_count offset) fits in
+      let v7 =
+      and_both
+      (list_all expr_fits distinct && list_all out_fits outs && from_fits from && joins_fit joins && filter_fits condition
+      && list_all order_fits keys && is_count limit)
+      (is_count offset) fits in
       let v6 = and_both (list_all expr_fits distinct && list_all out_fits outs && from_fits from && joins_fit joins && filter_fits condition && list_all order_fits keys) (is_count limit) v7.0 in
       let v5 = and_both (list_all expr_fits distinct && list_all out_fits outs && from_fits from && joins_fit joins && filter_fits condition) (list_all order_fits keys) v6.0 in
       let v4 = and_both (list_all expr_fits distinct && list_all out_fits outs && from_fits from && joins_fit joins) (filter_fits condition) v5.0 in
@@ -199,9 +203,13 @@ mutual
   pred_told (tree.negation p) zero h = absurd h
   pred_told (tree.negation p) (suc d) h = let k = pred_told p d h in let le : pred_depth p ≤ d = k.1 in (k.0, omega arith, k.2)
   pred_told (tree.all_of ps) zero h = absurd h
-  pred_told (tree.all_of ps) (suc d) h = let k = preds_told ps d h.1 in let le : preds_depth ps ≤ d = k.1 in (both_and (nat_le 2 (length (pred_list ps))) (are_preds ps) (two_told ps h.0) k.0, omega arith, k.2)
+  pred_told (tree.all_of ps) (suc d) h =
+      let k = preds_told ps d h.1 in let le : preds_depth ps
+      ≤ d = k.1 in (both_and (nat_le 2 (length (pred_list ps))) (are_preds ps) (two_told ps h.0) k.0, omega arith, k.2)
   pred_told (tree.any_of ps) zero h = absurd h
-  pred_told (tree.any_of ps) (suc d) h = let k = preds_told ps d h.1 in let le : preds_depth ps ≤ d = k.1 in (both_and (nat_le 2 (length (pred_list ps))) (are_preds ps) (two_told ps h.0) k.0, omega arith, k.2)
+  pred_told (tree.any_of ps) (suc d) h =
+      let k = preds_told ps d h.1 in let le : preds_depth ps
+      ≤ d = k.1 in (both_and (nat_le 2 (length (pred_list ps))) (are_preds ps) (two_told ps h.0) k.0, omega arith, k.2)
   pred_told (tree.exists s) zero h = absurd h
   pred_told (tree.exists s) (suc d) h = let k = select_told s d h.1 in let le : select_depth s ≤ d = k.1 in (both_and (is_rows s) (is_select s) h.0 k.0, omega arith, k.2)
 

@@ -53,7 +53,8 @@ fits_arity Many d [] as_many some form depth fits = absurd cc
 fits_arity Many d (e ∷ es) as_many some form depth fits = fits_closed d (e ∷ es) (le-leb 1 (length (e ∷ es)) (omega arith)) form depth fits
 
 pub fits_operands : (t : Test) (d : ℕ) (es : List ExprTree)
-    → takes t (length es) ≡ true → is_of_nothing t es ≡ false → list_all is_expr es ≡ true → list_parens t + greatest (map expr_depth es) ≤ d → list_all expr_fits es ≡ true → FitsOperands (arity t) d es
+    → takes t (length es) ≡ true → is_of_nothing t es ≡ false → list_all is_expr es ≡ true
+    → list_parens t + greatest (map expr_depth es) ≤ d → list_all expr_fits es ≡ true → FitsOperands (arity t) d es
 fits_operands t d es as_many some form depth fits = fits_arity (arity t) d es as_many (sym (nothing_is t es) ∙ some) form depth fits
 
 arity_told : (a : Arity) (d : ℕ) (es : List ExprTree) → FitsOperands a d es
@@ -83,7 +84,8 @@ one_text e = ap (λ t. t ++ word_text word.Close) (sym (append-nil (expr_text e)
 pub operands_take : (a : Arity) (d : ℕ) → Sound (operands_at a d) (Spelled (closed_list_text (arity_close a)) (FitsOperands a d))
 operands_take Nothing d = sound_end word.Close [] (Spelled (closed_list_text word.Close) (FitsOperands Nothing d)) (refl, tt)
 operands_take One d =
-    sound_last (argument_with (expr_at d)) (λ e. e ∷ []) closed_text (λ e. FitsExpr e d) (Spelled (closed_list_text word.Close) (FitsOperands One d)) (λ e fits. (one_text e, fits)) (closed_expr_takes d)
+    sound_last (argument_with (expr_at d)) (λ e. e ∷ []) closed_text (λ e. FitsExpr e d)
+    (Spelled (closed_list_text word.Close) (FitsOperands One d)) (λ e fits. (one_text e, fits)) (closed_expr_takes d)
 operands_take Many d = closed_exprs_take word.CloseIn d
 
 -- what is spelled so is read again

@@ -55,7 +55,13 @@ fn put_outputs(
     distinct: &ExprList,
     outs: &OutList,
 ) -> Result<(), Memory>
-    ensures { OnOk result (out.new.items ≡ out.old.items ++ (word_text Word.Select ++ (distinct_text (map expr_view distinct.now.items) ++ separated Word.Comma (map out_text (map out_view outs.now.items))))) }
+    ensures { OnOk result
+        (out.new.items
+        ≡ out.old.items
+        ++
+        (word_text Word.Select
+        ++
+        (distinct_text (map expr_view distinct.now.items) ++ separated Word.Comma (map out_text (map out_view outs.now.items))))) }
 {
     put_word(out, Word::Select)?;
     put_distinct(alloc, out, distinct)?;
@@ -70,7 +76,12 @@ fn put_end(
     limit: Option<u64>,
     offset: Option<u64>,
 ) -> Result<(), Memory>
-    ensures { OnOk result (out.new.items ≡ out.old.items ++ (clause_text Word.OrderBy Word.Comma (map order_text (map order_view keys.now.items)) ++ (number_text Word.Limit limit ++ number_text Word.Offset offset))) }
+    ensures { OnOk result
+        (out.new.items
+        ≡ out.old.items
+        ++
+        (clause_text Word.OrderBy Word.Comma (map order_text (map order_view keys.now.items))
+        ++ (number_text Word.Limit limit ++ number_text Word.Offset offset))) }
 {
     put_order_by(alloc, out, keys)?;
     put_count(alloc, out, Word::Limit, limit)?;

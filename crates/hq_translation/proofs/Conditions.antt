@@ -178,7 +178,10 @@ module _ (w : World) (scope : Scope) where
       → truth_at (test_of ty e t vs negated) w scope ≡ negated_if negated (test_truth t cell (map operand_cell vs))
   test_means ty e cell t vs negated shows =
       let p : PredTree = tree.test e t (literals_for ty (arity t) vs) in
-      let go : (b : Bool) → is_of_nothing t vs ≡ b → truth_at (cond b (cond negated tree.always tree.never) (negation_if negated p)) w scope ≡ negated_if negated (test_truth t cell (map operand_cell vs)) = elim [
+      let go : (b : Bool) → is_of_nothing t vs ≡ b
+      → truth_at (cond b (cond negated tree.always tree.never) (negation_if negated p)) w scope
+      ≡ negated_if negated (test_truth t cell (map operand_cell vs)) =
+      elim [
         | true ↦ λ h. nothing_means negated ∙ ap (negated_if negated) (sym (nothing_no t cell vs h))
         | false ↦ λ h. negation_means negated p ∙ ap (negated_if negated) (operands_mean ty t (value e [] scope) vs ∙ ap (λ c. test_truth t c (map operand_cell vs)) (shows h))
       ] in

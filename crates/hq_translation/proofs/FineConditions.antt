@@ -92,7 +92,8 @@ module _ (scope : Aliases) (e : ExprTree) (ty : Ty) (t : Test) (of : applies t t
       let b = and_parts (is_constant v) (list_all is_constant vs) g in
       two (is_operand scope t e (operand_literal ty v)) (list_all (is_operand scope t e) (map (operand_literal ty) vs)) (operand_typed v a.0 b.0) (operands_typed vs a.1 b.1)
 
-  literals_typed : (k : Arity) (vs : List Operand) → has_arity k (length vs) ≡ true → list_all (operand_fits t ty) vs ≡ true → list_all is_constant vs ≡ true → list_all (is_operand scope t e) (literals_for ty k vs) ≡ true
+  literals_typed : (k : Arity) (vs : List Operand) → has_arity k (length vs) ≡ true → list_all (operand_fits t ty) vs ≡ true
+      → list_all is_constant vs ≡ true → list_all (is_operand scope t e) (literals_for ty k vs) ≡ true
   literals_typed Nothing vs n f g = refl
   literals_typed One [] n f g = cc
   literals_typed One (v ∷ vs) n f g =
@@ -117,7 +118,10 @@ test_fine ty t (operands.List vs) f g =
     let e : ExprTree = tree.column (codes "t") (codes "c") (tested_form t ty) in
     let parts = and_parts (takes t (length vs) && applies t ty) (list_all (operand_fits t ty) vs) f in
     let of = and_parts (takes t (length vs)) (applies t ty) parts.0 in
-    two (is_tested (column_alone ty) t e) (list_all (is_operand (column_alone ty) t e) (literals_for ty (arity t) vs)) (value_alone ty t of.1) (literals_typed (column_alone ty) e ty t of.1 (kind_tested (column_alone ty) (codes "t") (codes "c") ty t refl) (arity t) vs of.0 parts.1 g)
+    two (is_tested (column_alone ty) t e) (list_all (is_operand (column_alone ty) t e) (literals_for ty (arity t) vs))
+    (value_alone ty t of.1)
+    (literals_typed (column_alone ty) e ty t of.1 (kind_tested (column_alone ty) (codes "t") (codes "c") ty t refl) (arity t) vs of.0
+    parts.1 g)
 test_fine ty t (operands.Session name) f g = cc
 
 -- a column equals a constant of its type, also where no test of it applies
@@ -130,7 +134,8 @@ value_fine ty v f =
 
 -- ---- columns whose type passes a test
 
-pub of_column : (P : Ty → Type 0) (passes : Ty → Bool) (s : Schema) (t c : ℕ) → ((ty : Ty) → passes ty ≡ true → P ty) → of_type passes (column_ty s t c) ≡ true → (ty : Ty) × (column_ty s t c ≡ Some ty) × P ty
+pub of_column : (P : Ty → Type 0) (passes : Ty → Bool) (s : Schema) (t c : ℕ) → ((ty : Ty) → passes ty ≡ true → P ty)
+    → of_type passes (column_ty s t c) ≡ true → (ty : Ty) × (column_ty s t c ≡ Some ty) × P ty
 of_column P passes s t c step h =
     let by : (o : Option Ty) → column_ty s t c ≡ o → of_type passes o ≡ true → (ty : Ty) × (column_ty s t c ≡ Some ty) × P ty =
     elim [ None ↦ λ is g. absurd (false≢true g) | Some ty ↦ λ is g. (ty, is, step ty g) ] in
@@ -177,10 +182,12 @@ kinds_compare Opaque Uuid h = absurd (false≢true h)
 kinds_compare Opaque Opaque h = absurd (false≢true h)
 
 -- columns whose values can be compared
-columns_fine : (s : Schema) (t i j : ℕ) → can_pair (column_ty s t i) (column_ty s t j) ≡ true → Has s t i × Has s t j × (compare_kinds (Some (compared_kind_of s t i)) (Some (compared_kind_of s t j)) ≡ true)
+columns_fine : (s : Schema) (t i j : ℕ) → can_pair (column_ty s t i) (column_ty s t j) ≡ true
+    → Has s t i × Has s t j × (compare_kinds (Some (compared_kind_of s t i)) (Some (compared_kind_of s t j)) ≡ true)
 columns_fine s t i j h = by (column_ty s t i) (column_ty s t j) refl refl h
   where
-    by : (a b : Option Ty) → column_ty s t i ≡ a → column_ty s t j ≡ b → can_pair a b ≡ true → Has s t i × Has s t j × (compare_kinds (Some (compared_kind_of s t i)) (Some (compared_kind_of s t j)) ≡ true)
+    by : (a b : Option Ty) → column_ty s t i ≡ a → column_ty s t j ≡ b → can_pair a b ≡ true
+        → Has s t i × Has s t j × (compare_kinds (Some (compared_kind_of s t i)) (Some (compared_kind_of s t j)) ≡ true)
     by None b e f g = absurd (false≢true g)
     by (Some a) None e f g = absurd (false≢true g)
     by (Some a) (Some b) e f g =

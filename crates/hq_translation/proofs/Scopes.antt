@@ -71,7 +71,8 @@ knows_left s scope t look cs ds k c has used = k c has (used_left c cs ds used)
 pub knows_right : (s : Schema) (scope : Aliases) (t : ℕ) (look : Look) (cs ds : List ℕ) → Knows s scope t look (cs ++ ds) → Knows s scope t look ds
 knows_right s scope t look cs ds k c has used = k c has (used_right c cs ds used)
 
-pub column_kind : (columns : List Column) (c : ℕ) → Differ columns → c < length columns → kind_named (kinds_of columns) (name_of columns c) ≡ Some (kind_of_type (slice_index_or columns c no_column).ty)
+pub column_kind : (columns : List Column) (c : ℕ) → Differ columns → c < length columns
+    → kind_named (kinds_of columns) (name_of columns c) ≡ Some (kind_of_type (slice_index_or columns c no_column).ty)
 column_kind [] c d lt = absurd (omega arith)
 column_kind (n ∷ columns) zero d lt = rw (same_text n.name) refl
 column_kind (n ∷ columns) (suc c) d lt = rw (d.0 c) (column_kind columns c d.1 (omega arith))
@@ -122,7 +123,8 @@ kind_shown scope alias name Boolean e = e
 kind_shown scope alias name Uuid e = e
 kind_shown scope alias name Opaque e = refl
 
-pub kind_compared : (scope : Aliases) (alias name : List ℕ) (ty : Ty) → kind_at scope alias name ≡ Some (kind_of_type ty) → kind scope (tree.column alias name (compared_form ty)) ≡ Some (compared_kind ty)
+pub kind_compared : (scope : Aliases) (alias name : List ℕ) (ty : Ty) → kind_at scope alias name ≡ Some (kind_of_type ty)
+    → kind scope (tree.column alias name (compared_form ty)) ≡ Some (compared_kind ty)
 kind_compared scope alias name Integer e = e
 kind_compared scope alias name Bigint e = e
 kind_compared scope alias name Text e = e
@@ -130,6 +132,7 @@ kind_compared scope alias name Boolean e = e
 kind_compared scope alias name Uuid e = e
 kind_compared scope alias name Opaque e = refl
 
-pub kind_tested : (scope : Aliases) (alias name : List ℕ) (ty : Ty) (t : Test) → kind_at scope alias name ≡ Some (kind_of_type ty) → kind scope (tree.column alias name (tested_form t ty)) ≡ Some (compared_kind ty)
+pub kind_tested : (scope : Aliases) (alias name : List ℕ) (ty : Ty) (t : Test) → kind_at scope alias name ≡ Some (kind_of_type ty)
+    → kind scope (tree.column alias name (tested_form t ty)) ≡ Some (compared_kind ty)
 kind_tested scope alias name ty IsNull e = kind_shown scope alias name ty e
 kind_tested scope alias name ty _ e = kind_compared scope alias name ty e

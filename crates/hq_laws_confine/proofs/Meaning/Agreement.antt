@@ -36,7 +36,8 @@ pub record Alike (s : Schema) (g : Grants) (d e : List (List Row)) : Type 0 wher
   pub cells : (t c : ℕ) → is_permitted (grant g t) c ≡ true → has_mask (grant g t) c ≡ false → (p : Option ℕ) → row_cell (row_at s g d t p) c ≡ row_cell (row_at s g e t p) c
   pub orders : (t : ℕ) (p q : Option ℕ) → columns_cmp (table s t).key (row_at s g d t p) (row_at s g d t q) ≡ columns_cmp (table s t).key (row_at s g e t p) (row_at s g e t q)
   pub links : (t : ℕ) → Each (λ r. (p q : ℕ) → p < length (permitted s g d t) → q < length (permitted s g d r.remote)
-      → linked_by r.pairs (slice_index_or (permitted s g d t) p []) (slice_index_or (permitted s g d r.remote) q []) ≡ linked_by r.pairs (slice_index_or (permitted s g e t) p []) (slice_index_or (permitted s g e r.remote) q [])) (table s t).rels
+      → linked_by r.pairs (slice_index_or (permitted s g d t) p []) (slice_index_or (permitted s g d r.remote) q [])
+      ≡ linked_by r.pairs (slice_index_or (permitted s g e t) p []) (slice_index_or (permitted s g e r.remote) q [])) (table s t).rels
 
 got_numbered : {A B : Type 0} (f : ℕ → A → B) (xs : List A) (k i : ℕ) (d : A) (e : B) → ((j : ℕ) → f j d ≡ e) → slice_index_or (numbered f k xs) i e ≡ f (k + i) (slice_index_or xs i d)
 got_numbered f [] k i d e h = sym (h (k + i))
@@ -109,7 +110,8 @@ module _ (s : Schema) (g : Grants) where
 
     sizes_of : (t : ℕ) → length (permitted s g d t) ≡ length (permitted s g e t)
     sizes_of t =
-        sym (length-map (permitted s g d t) (λ row. cut (grant g t).columns (shown s g d t row))) ∙ ap length (cuts_of t) ∙ length-map (permitted s g e t) (λ row. cut (grant g t).columns (shown s g e t row))
+        sym (length-map (permitted s g d t) (λ row. cut (grant g t).columns (shown s g d t row))) ∙ ap length (cuts_of t)
+        ∙ length-map (permitted s g e t) (λ row. cut (grant g t).columns (shown s g e t row))
 
     shows_of : (t c : ℕ) → is_permitted (grant g t) c ≡ true → (n : ℕ) → shown s g d t (slice_index_or (permitted s g d t) n []) c ≡ shown s g e t (slice_index_or (permitted s g e t) n []) c
     shows_of t c h n =
@@ -125,11 +127,13 @@ module _ (s : Schema) (g : Grants) where
     links_of : (t : ℕ) → Each (λ r. view_links s g d t r ≡ view_links s g e t r) (table s t).rels
     links_of t =
         images_each (view_links s g d t) (view_links s g e t) (table s t).rels
-        (sym (got_at (λ u x. map (view_links s g d u) x.rels) s t no_table [] (λ j. refl)) ∙ ap (λ v. slice_index_or v.links t []) ag ∙ got_at (λ u x. map (view_links s g e u) x.rels) s t no_table [] (λ j. refl))
+        (sym (got_at (λ u x. map (view_links s g d u) x.rels) s t no_table [] (λ j. refl)) ∙ ap (λ v. slice_index_or v.links t []) ag
+        ∙ got_at (λ u x. map (view_links s g e u) x.rels) s t no_table [] (λ j. refl))
 
     pub alike_of : ((t : ℕ) → Keyed s d t) → ((t : ℕ) → Keyed s e t) → Alike s g d e
     alike_of kd ke =
-        let at_d : (t : ℕ) (p : Option ℕ) → row_at s g d t p ≡ slice_index_or (permitted s g d t) (spot (length (permitted s g d t)) p) [] = λ t. elim [ None ↦ sym (beyond_end (permitted s g d t)) | Some n ↦ refl ] in
+        let at_d : (t : ℕ) (p : Option ℕ) → row_at s g d t p ≡ slice_index_or (permitted s g d t) (spot (length (permitted s g d t)) p) [] =
+        λ t. elim [ None ↦ sym (beyond_end (permitted s g d t)) | Some n ↦ refl ] in
         let at_e : (t : ℕ) (p : Option ℕ) → row_at s g e t p ≡ slice_index_or (permitted s g e t) (spot (length (permitted s g d t)) p) [] =
         λ t. elim [ None ↦ sym (beyond_end (permitted s g e t)) ∙ ap (λ n. slice_index_or (permitted s g e t) n []) (sym (sizes_of t)) | Some n ↦ refl ] in
         record {
@@ -138,9 +142,13 @@ module _ (s : Schema) (g : Grants) where
           cells = cells_of;
           orders = λ t p q.
               ap₂ (columns_cmp (table s t).key) (at_d t p) (at_d t q)
-              ∙ same_order (table s t).key (permitted s g d t) (permitted s g e t) (sizes_of t) (rising_of d t (kd t)) (rising_of e t (ke t)) (full_of d t (kd t)) (full_of e t (ke t)) (spot (length (permitted s g d t)) p) (spot (length (permitted s g d t)) q)
+              ∙ same_order (table s t).key (permitted s g d t) (permitted s g e t) (sizes_of t) (rising_of d t (kd t))
+              (rising_of e t (ke t)) (full_of d t (kd t)) (full_of e t (ke t)) (spot (length (permitted s g d t)) p)
+              (spot (length (permitted s g d t)) q)
               ∙ sym (ap₂ (columns_cmp (table s t).key) (at_e t p) (at_e t q));
           links = λ t.
               each_weaken (λ r. view_links s g d t r ≡ view_links s g e t r) _
-              (λ r q p far lp lf. pairs_alike (linked_by r.pairs) (permitted s g d t) (permitted s g e t) (permitted s g d r.remote) (permitted s g e r.remote) [] [] (sizes_of t) (sizes_of r.remote) q p far lp lf) (table s t).rels (links_of t);
+              (λ r q p far lp lf. pairs_alike (linked_by r.pairs) (permitted s g d t) (permitted s g e t) (permitted s g d r.remote)
+              (permitted s g e r.remote) [] [] (sizes_of t) (sizes_of r.remote) q p far lp lf)
+              (table s t).rels (links_of t);
         }

@@ -155,14 +155,17 @@ mutual
       let rest = formed_of inner others tables around (first_apart alias (aliases_in inner others) a).1 parts.0 in
       ((rest.0, folded_of out.value ((alias, select_names inner tables around) ∷ []) parts.1), rest.1)
 
-  from_of : (from : FromTree) (js : JoinTrees) (others : List (List ℕ)) (tables : List Table) (around : Aliases) → Apart (aliases_in_from from (aliases_in_joins js others)) → is_typed_from from tables around ≡ true → FormedFrom from js × Apart (aliases_in_joins js others)
+  from_of : (from : FromTree) (js : JoinTrees) (others : List (List ℕ)) (tables : List Table) (around : Aliases)
+      → Apart (aliases_in_from from (aliases_in_joins js others)) → is_typed_from from tables around ≡ true
+      → FormedFrom from js × Apart (aliases_in_joins js others)
   from_of (tree.table schema name alias) js others tables around a h =
       let parts = first_apart alias (aliases_in_joins js others) a in
       (fresh_of alias js others (unlike alias (aliases_in_joins js others) parts.0), parts.1)
   from_of (tree.sub q alias) js others tables around a h = formed_of q (aliases_in_joins js others) tables around (first_apart alias (aliases_in q (aliases_in_joins js others)) a).1 h
   from_of (tree.one alias) js others tables around a h = (tt, (first_apart alias (aliases_in_joins js others) a).1)
 
-  joins_of : (js : JoinTrees) (others : List (List ℕ)) (tables : List Table) (scope : Aliases) → Apart (aliases_in_joins js others) → are_typed_joins js tables scope ≡ true → FormedJoins js × Apart others
+  joins_of : (js : JoinTrees) (others : List (List ℕ)) (tables : List Table) (scope : Aliases) → Apart (aliases_in_joins js others)
+      → are_typed_joins js tables scope ≡ true → FormedJoins js × Apart others
   joins_of tree.no_join others tables scope a h = (tt, a)
   joins_of (tree.join q alias js) others tables scope a h =
       let parts = both (is_typed q tables scope) (are_typed_joins js tables ((alias, select_names q tables scope) ∷ scope)) h in
@@ -170,7 +173,8 @@ mutual
       let rest = joins_of js others tables ((alias, select_names q tables scope) ∷ scope) first.1 parts.1 in
       ((first.0, rest.0), rest.1)
 
-  filter_of : (c : FilterTree) (others : List (List ℕ)) (tables : List Table) (scope : Aliases) → Apart (aliases_in_filter c others) → is_typed_filter c tables scope ≡ true → FormedFilter c × Apart others
+  filter_of : (c : FilterTree) (others : List (List ℕ)) (tables : List Table) (scope : Aliases) → Apart (aliases_in_filter c others)
+      → is_typed_filter c tables scope ≡ true → FormedFilter c × Apart others
   filter_of tree.no_filter others tables scope a h = (tt, a)
   filter_of (tree.filter p) others tables scope a h = pred_of p others tables scope a h
 
@@ -183,7 +187,8 @@ mutual
   pred_of (tree.any_of ps) others tables scope a h = preds_of ps others tables scope a h
   pred_of (tree.exists q) others tables scope a h = formed_of q others tables scope a h
 
-  preds_of : (ps : PredTrees) (others : List (List ℕ)) (tables : List Table) (scope : Aliases) → Apart (aliases_in_preds ps others) → are_typed_preds ps tables scope ≡ true → FormedPreds ps × Apart others
+  preds_of : (ps : PredTrees) (others : List (List ℕ)) (tables : List Table) (scope : Aliases) → Apart (aliases_in_preds ps others)
+      → are_typed_preds ps tables scope ≡ true → FormedPreds ps × Apart others
   preds_of tree.no_pred others tables scope a h = (tt, a)
   preds_of (tree.pred p ps) others tables scope a h =
       let parts = both (is_typed_pred p tables scope) (are_typed_preds ps tables scope) h in

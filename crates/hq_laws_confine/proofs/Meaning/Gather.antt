@@ -81,7 +81,9 @@ count_gathers : (cs : List CellTree) → length (filter is_counted cs) ≡ gathe
 count_gathers [] = refl
 count_gathers (c ∷ cs) =
     let later = count_gathers cs in
-    let go : (b : Bool) → length (cond b (c ∷ filter is_counted cs) (filter is_counted cs)) ≡ cond b (suc (gather count_step 0 cs)) (gather count_step 0 cs) = elim [ true ↦ ap suc later | false ↦ later ] in
+    let go : (b : Bool)
+    → length (cond b (c ∷ filter is_counted cs) (filter is_counted cs)) ≡ cond b (suc (gather count_step 0 cs)) (gather count_step 0 cs) =
+    elim [ true ↦ ap suc later | false ↦ later ] in
     go (is_counted c)
 
 count_commutes : (x y : CellTree) (n : ℕ) → count_step x (count_step y n) ≡ count_step y (count_step x n)
@@ -119,7 +121,15 @@ fold_gathers : (n : ℤ) (cs : List CellTree) → int (fold (λ total d. total +
 fold_gathers n [] = refl
 fold_gathers n (d ∷ ds) =
     let go : (g : CellTree) → add_cell (n +ℤ int_in d) g ≡ add_cell n (plus_cell d g) =
-    elim [ null ↦ refl | int m ↦ ap int (+ℤ_assoc n (int_in d) m) | text s ↦ ap int (+ℤ_assoc n (int_in d) (pos 0)) | bool b ↦ ap int (+ℤ_assoc n (int_in d) (pos 0)) | json j ↦ ap int (+ℤ_assoc n (int_in d) (pos 0)) ] in
+    elim [
+      | null ↦ refl
+      | int m ↦ ap int (+ℤ_assoc n (int_in d) m)
+      | text s ↦ ap int (+ℤ_assoc n (int_in d) (pos 0))
+      | bool b
+          ↦ ap int (+ℤ_assoc n (int_in d) (pos 0))
+      | json j ↦ ap int (+ℤ_assoc n (int_in d) (pos 0))
+    ]
+    in
     fold_gathers (n +ℤ int_in d) ds ∙ go (gather plus_cell null ds)
 
 total_gathers : (cs : List CellTree) → sum_of cs ≡ gather plus_cell null cs
@@ -132,7 +142,10 @@ sum_filter : (cs : List CellTree) → gather plus_cell null (filter is_taken cs)
 sum_filter [] = refl
 sum_filter (c ∷ cs) =
     let later = sum_filter cs in
-    let go : (b : Bool) → gather plus_cell null (cond b (c ∷ filter is_taken cs) (filter is_taken cs)) ≡ cond b (plus_cell c (gather sum_step null cs)) (gather sum_step null cs) = elim [ true ↦ ap (plus_cell c) later | false ↦ later ] in
+    let go : (b : Bool)
+    → gather plus_cell null (cond b (c ∷ filter is_taken cs) (filter is_taken cs))
+    ≡ cond b (plus_cell c (gather sum_step null cs)) (gather sum_step null cs) =
+    elim [ true ↦ ap (plus_cell c) later | false ↦ later ] in
     go (is_taken c)
 
 -- ---- lists that no gathering tells apart
@@ -150,7 +163,8 @@ length_shuffled f xs ys h =
 count_shuffled : {A : Type 0} (f : A → CellTree) (xs ys : List A) → Shuffled xs ys → counted false (map f xs) ≡ counted false (map f ys)
 count_shuffled f xs ys h =
     ap (λ n. int (pos n))
-    (count_gathers (map f xs) ∙ gather_map count_step 0 f xs ∙ h.0 (λ x. count_step (f x)) (λ x y a. count_commutes (f x) (f y) a) 0 ∙ sym (gather_map count_step 0 f ys) ∙ sym (count_gathers (map f ys)))
+    (count_gathers (map f xs) ∙ gather_map count_step 0 f xs ∙ h.0 (λ x. count_step (f x)) (λ x y a. count_commutes (f x) (f y) a) 0
+    ∙ sym (gather_map count_step 0 f ys) ∙ sym (count_gathers (map f ys)))
 
 sum_is : {A : Type 0} (f : A → CellTree) (xs : List A) → aggregated Sum (map f xs) ≡ gather (λ x. sum_step (f x)) null xs
 sum_is f xs = total_gathers (filter is_taken (map f xs)) ∙ sum_filter (map f xs) ∙ gather_map sum_step null f xs
@@ -201,7 +215,9 @@ module _ (V : CellTree → CellTree → Ordering) (o : IsTotalOrder V) (exact : 
   sort_gathers [] = refl
   sort_gathers (c ∷ cs) =
       let later = sort_gathers cs in
-      let go : (b : Bool) → sort V (cond b (c ∷ filter is_taken cs) (filter is_taken cs)) ≡ cond b (put V c (gather put_step [] cs)) (gather put_step [] cs) = elim [ true ↦ ap (put V c) later | false ↦ later ] in
+      let go : (b : Bool)
+      → sort V (cond b (c ∷ filter is_taken cs) (filter is_taken cs)) ≡ cond b (put V c (gather put_step [] cs)) (gather put_step [] cs) =
+      elim [ true ↦ ap (put V c) later | false ↦ later ] in
       go (is_taken c)
 
   cells_shuffled : {A : Type 0} (f : A → CellTree) (xs ys : List A) → Shuffled xs ys → sort V (filter is_taken (map f xs)) ≡ sort V (filter is_taken (map f ys))

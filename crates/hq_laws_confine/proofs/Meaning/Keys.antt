@@ -99,7 +99,8 @@ pub record Keyed (s : Schema) (d : List (List Row)) (t : ℕ) : Type 0 where
   pub apart : Apart (columns_cmp (table s t).key) (table_rows d t)
   pub full : Each (Full (table s t).key) (table_rows d t)
 
-keyed_from : (meta : MetaTree) (all : List Table) (k : ℕ) (tables : List Table) (d : List (List Row)) (t : ℕ) → list_all (is_table all) tables ≡ true → is_database tables d ≡ true → Keyed (numbered (schema_table meta) k tables) d t
+keyed_from : (meta : MetaTree) (all : List Table) (k : ℕ) (tables : List Table) (d : List (List Row)) (t : ℕ)
+    → list_all (is_table all) tables ≡ true → is_database tables d ≡ true → Keyed (numbered (schema_table meta) k tables) d t
 keyed_from meta all k [] [] t c e = record { apart = tt; full = tt }
 keyed_from meta all k [] (rs ∷ d) t c e = absurd cc
 keyed_from meta all k (x ∷ tables) [] t c e = absurd cc
@@ -131,7 +132,8 @@ before_null [] x y h g = refl
 before_null (k ∷ ks) x y h g =
     ap (λ p. ordering_then p (columns_cmp ks x [])) (less_null (row_cell x k) h.0) ∙ sym (ap (λ p. ordering_then p (columns_cmp ks y [])) (less_null (row_cell y k) g.0))
 
-front_order : (ks : List ℕ) (x y : Row) → Full ks x → Full ks y → (xs ys : List Row) → length xs ≡ length ys → Each (λ z. columns_cmp ks x z ≡ Less) xs → Each (λ z. columns_cmp ks y z ≡ Less) ys → (q : ℕ)
+front_order : (ks : List ℕ) (x y : Row) → Full ks x → Full ks y → (xs ys : List Row) → length xs ≡ length ys
+    → Each (λ z. columns_cmp ks x z ≡ Less) xs → Each (λ z. columns_cmp ks y z ≡ Less) ys → (q : ℕ)
     → columns_cmp ks x (slice_index_or xs q []) ≡ columns_cmp ks y (slice_index_or ys q [])
 front_order ks x y fx fy [] [] l h g q = before_null ks x y fx fy
 front_order ks x y fx fy [] (z ∷ zs) l h g q = absurd (omega arith)
@@ -148,5 +150,6 @@ same_order ks (x ∷ xs) [] l h g f e p q = absurd (omega arith)
 same_order ks (x ∷ xs) (y ∷ ys) l h g f e zero zero = self_equal (columns_total ks) x ∙ sym (self_equal (columns_total ks) y)
 same_order ks (x ∷ xs) (y ∷ ys) l h g f e zero (suc q) = front_order ks x y f.0 e.0 xs ys (omega arith) h.0 g.0 q
 same_order ks (x ∷ xs) (y ∷ ys) l h g f e (suc p) zero =
-    (columns_total ks).antisymm (slice_index_or xs p []) x ∙ ap ordering_reverse (front_order ks x y f.0 e.0 xs ys (omega arith) h.0 g.0 p) ∙ sym ((columns_total ks).antisymm (slice_index_or ys p []) y)
+    (columns_total ks).antisymm (slice_index_or xs p []) x ∙ ap ordering_reverse (front_order ks x y f.0 e.0 xs ys (omega arith) h.0 g.0 p)
+    ∙ sym ((columns_total ks).antisymm (slice_index_or ys p []) y)
 same_order ks (x ∷ xs) (y ∷ ys) l h g f e (suc p) (suc q) = same_order ks xs ys (omega arith) h.1 g.1 f.1 e.1 p q

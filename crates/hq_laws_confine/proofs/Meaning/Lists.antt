@@ -64,7 +64,8 @@ module _ {A B : Type 0} where
   each_flat_map Q P F e (x ∷ xs) h = each_append P (F x) (flat_map F xs) (e x h.0) (each_flat_map Q P F e xs h.1)
 
   -- items all of whose images a filter leaves out may be left out before
-  pub only_some : (F : A → List B) (K : B → Bool) (ok : A → Bool) → (rs : List A) → Each (λ r. ok r ≡ false → Each (λ g. K g ≡ false) (F r)) rs → filter K (flat_map F rs) ≡ filter K (flat_map F (filter ok rs))
+  pub only_some : (F : A → List B) (K : B → Bool) (ok : A → Bool) → (rs : List A)
+      → Each (λ r. ok r ≡ false → Each (λ g. K g ≡ false) (F r)) rs → filter K (flat_map F rs) ≡ filter K (flat_map F (filter ok rs))
   only_some F K ok [] h = refl
   only_some F K ok (r ∷ rs) h =
       let later = only_some F K ok rs h.1 in
@@ -81,7 +82,8 @@ module _ {A B : Type 0} where
 
 -- ---- lists related item by item
 
-pub zip_flat : {A B C D : Type 0} (R : A → B → Type 0) (S : C → D → Type 0) (f : A → List C) (g : B → List D) → ((x : A) (y : B) → R x y → Zip S (f x) (g y)) → (xs : List A) (ys : List B) → Zip R xs ys → Zip S (flat_map f xs) (flat_map g ys)
+pub zip_flat : {A B C D : Type 0} (R : A → B → Type 0) (S : C → D → Type 0) (f : A → List C) (g : B → List D)
+    → ((x : A) (y : B) → R x y → Zip S (f x) (g y)) → (xs : List A) (ys : List B) → Zip R xs ys → Zip S (flat_map f xs) (flat_map g ys)
 zip_flat R S f g step [] [] h = tt
 zip_flat R S f g step [] (y ∷ ys) h = absurd h
 zip_flat R S f g step (x ∷ xs) [] h = absurd h
@@ -110,7 +112,8 @@ zip_places d (x ∷ xs) (y ∷ ys) h =
     )
 
 -- two lists with the same images, place by place, and beyond
-pub images_at : {A B C : Type 0} (F G : A → B) (p q : A → C) (z : A) → ((x y : A) → F x ≡ G y → p x ≡ q y) → p z ≡ q z → (xs ys : List A) → map F xs ≡ map G ys → (n : ℕ) → p (slice_index_or xs n z) ≡ q (slice_index_or ys n z)
+pub images_at : {A B C : Type 0} (F G : A → B) (p q : A → C) (z : A) → ((x y : A) → F x ≡ G y → p x ≡ q y) → p z ≡ q z → (xs ys : List A)
+    → map F xs ≡ map G ys → (n : ℕ) → p (slice_index_or xs n z) ≡ q (slice_index_or ys n z)
 images_at F G p q z step end [] [] h n = end
 images_at F G p q z step end [] (y ∷ ys) h n = cc
 images_at F G p q z step end (x ∷ xs) [] h n = cc

@@ -47,11 +47,14 @@ module _ (s : Schema) (g : Grants) (scope : Shapes) where
   shown_of : (one alias name : List ℕ) (condition : FilterTree) → shows_in s g alias name (conjuncts condition) (shape_at ((one, outputs []) ∷ scope) alias) ≡ true → Shown one alias name condition
   shown_of one alias name condition h =
       let all : List PredTree = conjuncts condition in
-      let columns : (t : ℕ) (o : Option ℕ) → bytes_eq one alias ≡ false → shape_at scope alias ≡ scan t → column_place s t name ≡ o → shows_masked s g alias all t o ≡ true → Shown one alias name condition =
+      let columns : (t : ℕ) (o : Option ℕ) → bytes_eq one alias ≡ false → shape_at scope alias ≡ scan t → column_place s t name ≡ o
+      → shows_masked s g alias all t o ≡ true → Shown one alias name condition =
       λ t. elim [
         | None ↦ λ ne e q k. cc
         | Some c ↦ λ ne e q k.
-            let three = and_parts (is_permitted (grant g t) c && has_mask (grant g t) c && stand_among all (mask_conjuncts s g t c) alias) (list_all (is_one_of (mask_conjuncts s g t c) alias) all) k in
+            let three =
+            and_parts (is_permitted (grant g t) c && has_mask (grant g t) c && stand_among all (mask_conjuncts s g t c) alias)
+            (list_all (is_one_of (mask_conjuncts s g t c) alias) all) k in
             let two = and_parts (is_permitted (grant g t) c && has_mask (grant g t) c) (stand_among all (mask_conjuncts s g t c) alias) three.0 in
             let one_part = and_parts (is_permitted (grant g t) c) (has_mask (grant g t) c) two.0 in
             record { t = t; c = c; other = ne; at = e; column = q; permitted = one_part.0; stand = two.1; ones = three.1 }
@@ -66,7 +69,9 @@ module _ (s : Schema) (g : Grants) (scope : Shapes) where
   mask_form (tree.fold out inner alias) h = cc
   mask_form (tree.rows distinct outs from joins condition keys limit offset) h =
       let all : List PredTree = conjuncts condition in
-      let f = and_parts ((length distinct == 0) && is_one from && is_no_join joins && (length keys == 0) && is_none limit && is_none offset) (shows_only s g ((alias_of from, outputs []) ∷ scope) all outs) h in
+      let f =
+      and_parts ((length distinct == 0) && is_one from && is_no_join joins && (length keys == 0) && is_none limit && is_none offset)
+      (shows_only s g ((alias_of from, outputs []) ∷ scope) all outs) h in
       let e = and_parts ((length distinct == 0) && is_one from && is_no_join joins && (length keys == 0) && is_none limit) (is_none offset) f.0 in
       let d = and_parts ((length distinct == 0) && is_one from && is_no_join joins && (length keys == 0)) (is_none limit) e.0 in
       let c = and_parts ((length distinct == 0) && is_one from && is_no_join joins) (length keys == 0) d.0 in
@@ -76,11 +81,28 @@ module _ (s : Schema) (g : Grants) (scope : Shapes) where
       ap (λ x. tree.rows x outs from joins condition keys limit offset) (nil_is distinct a.0) ∙ ap (λ x. tree.rows [] outs from x condition keys limit offset) (no_join_is joins b.1)
       ∙ ap (λ x. tree.rows [] outs from tree.no_join condition x limit offset) (nil_is keys c.1) ∙ ap (λ x. tree.rows [] outs from tree.no_join condition [] x offset) (none_is limit d.1)
       ∙ ap (λ x. tree.rows [] outs from tree.no_join condition [] None x) (none_is offset e.1) in
-      let values : (one : List ℕ) (out : List ℕ) (v : ExprTree) → shows_one s g ((one, outputs []) ∷ scope) all v ≡ true → MaskForm s g scope (tree.rows [] (record { value = v; name = out } ∷ []) (tree.one one) tree.no_join condition [] None None) =
+      let values : (one : List ℕ) (out : List ℕ) (v : ExprTree) → shows_one s g ((one, outputs []) ∷ scope) all v ≡ true
+      → MaskForm s g scope (tree.rows [] (record { value = v; name = out } ∷ []) (tree.one one) tree.no_join condition [] None None) =
       λ one out. elim [
         | tree.column alias name form ↦ λ k.
             let x = shown_of one alias name condition k in
-            record { one = one; alias = alias; name = name; form = form; out = out; condition = condition; t = x.t; c = x.c; is = refl; other = x.other; at = x.at; column = x.column; permitted = x.permitted; stand = x.stand; ones = x.ones }
+            record {
+              one = one;
+              alias = alias;
+              name = name;
+              form = form;
+              out = out;
+              condition = condition;
+              t = x.t;
+              c = x.c;
+              is = refl;
+              other = x.other;
+              at = x.at;
+              column = x.column;
+              permitted = x.permitted;
+              stand = x.stand;
+              ones = x.ones;
+            }
         | tree.int n ↦ λ k. cc
         | tree.text n ↦ λ k. cc
         | tree.uuid n ↦ λ k. cc
@@ -88,14 +110,17 @@ module _ (s : Schema) (g : Grants) (scope : Shapes) where
         | tree.object ps ↦ λ k. cc
         | tree.aggregate n ↦ λ k. cc
       ] in
-      let listed : (one : List ℕ) (os : List OutTree) → shows_only s g ((one, outputs []) ∷ scope) all os ≡ true → MaskForm s g scope (tree.rows [] os (tree.one one) tree.no_join condition [] None None) =
+      let listed : (one : List ℕ) (os : List OutTree) → shows_only s g ((one, outputs []) ∷ scope) all os ≡ true
+      → MaskForm s g scope (tree.rows [] os (tree.one one) tree.no_join condition [] None None) =
       λ one. elim [
         | [] ↦ λ k. cc
         | o ∷ os ↦
-            (let more : (rest : List OutTree) → shows_only s g ((one, outputs []) ∷ scope) all (o ∷ rest) ≡ true → MaskForm s g scope (tree.rows [] (o ∷ rest) (tree.one one) tree.no_join condition [] None None) =
+            (let more : (rest : List OutTree) → shows_only s g ((one, outputs []) ∷ scope) all (o ∷ rest) ≡ true
+            → MaskForm s g scope (tree.rows [] (o ∷ rest) (tree.one one) tree.no_join condition [] None None) =
             elim [ [] ↦ λ k. values one o.name o.value k | p ∷ ps ↦ λ k. cc ] in
             more os)
       ] in
-      let sources : (x : FromTree) → is_one x ≡ true → shows_only s g ((alias_of x, outputs []) ∷ scope) all outs ≡ true → MaskForm s g scope (tree.rows [] outs x tree.no_join condition [] None None) =
+      let sources : (x : FromTree) → is_one x ≡ true → shows_only s g ((alias_of x, outputs []) ∷ scope) all outs ≡ true
+      → MaskForm s g scope (tree.rows [] outs x tree.no_join condition [] None None) =
       elim [ tree.table schema name alias ↦ λ q k. cc | tree.sub q alias ↦ λ e k. cc | tree.one alias ↦ λ q k. listed alias outs k ] in
       subst (MaskForm s g scope) (sym bare) (sources from a.1 f.1)

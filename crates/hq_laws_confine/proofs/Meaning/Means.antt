@@ -74,9 +74,13 @@ module _ (s : Schema) (g : Grants) (tables : List Table) (d : List (List Row)) (
   kept_at t n lt = each_at (λ row. keeps (grant g t).filter s (all_of s d) t row ≡ true) (permitted s g d t) n [] lt (each_passes (keeps (grant g t).filter s (all_of s d) t) (by_key s d t))
 
   -- of the rows of a scan those count that are permitted
-  pub scan_permitted : (schema name alias : List ℕ) (c : FilterTree) (js : JoinTrees) → stand_among (conjuncts c) (filter_conjuncts s g (table_place s schema name)) alias ≡ true → Fresh alias js → (x : Scope)
+  pub scan_permitted : (schema name alias : List ℕ) (c : FilterTree) (js : JoinTrees)
+      → stand_among (conjuncts c) (filter_conjuncts s g (table_place s schema name)) alias ≡ true → Fresh alias js → (x : Scope)
       → filter (kept c (key_world s tables d)) (flat_map (joined js (key_world s tables d)) (map (with_alias x alias) (rows_named tables ((key_world s tables d).database) schema name)))
-      ≡ filter (kept c (key_world s tables d)) (flat_map (joined js (key_world s tables d)) (map (with_alias x alias) (map (named_row (table s (table_place s schema name)).columns) (permitted s g d (table_place s schema name)))))
+      ≡ filter (kept c (key_world s tables d))
+      (flat_map (joined js (key_world s tables d))
+      (map (with_alias x alias)
+      (map (named_row (table s (table_place s schema name)).columns) (permitted s g d (table_place s schema name)))))
   scan_permitted schema name alias c js stand fresh x =
       let t : ℕ = table_place s schema name in
       let w : World = key_world s tables d in
@@ -89,7 +93,8 @@ module _ (s : Schema) (g : Grants) (tables : List Table) (d : List (List Row)) (
       λ row narrow no.
       each_weaken (λ y. y alias ≡ with_alias x alias (N row) alias) (λ y. kept c w y ≡ false)
       (λ y at. not_true (kept c w y) (λ h. let here : y alias ≡ N row = at ∙ ap (λ b. cond b (N row) (x alias)) (same_text alias) in
-      let yes : ok row ≡ true = all_keep s tables d base (grant g t).filter t (filters t) alias row narrow y here (conjuncts c) stand (sym (kept_conjuncts c w y) ∙ h) in cc)) (J row) (joins_keep alias js fresh w (with_alias x alias (N row))) in
+      let yes : ok row ≡ true = all_keep s tables d base (grant g t).filter t (filters t) alias row narrow y here (conjuncts c) stand (sym (kept_conjuncts c w y) ∙ h) in
+      cc)) (J row) (joins_keep alias js fresh w (with_alias x alias (N row))) in
       ap (λ l. filter (kept c w) (flat_map (joined js w) (map (with_alias x alias) l))) (base.in_order schema name)
       ∙ flat (by_key s d t) ∙ only_some J (kept c w) ok (by_key s d t) (each_weaken (Narrow s t) _ drops (by_key s d t) (narrow_rows t))
       ∙ sym (flat (permitted s g d t))
@@ -105,14 +110,18 @@ six [] (x ∷ b) c d e f h = cc
 six (x ∷ a) b c d e f h = cc
 
 -- of a scan
-pub scan_parts : (s : Schema) (g : Grants) (scope : Shapes) (t : ℕ) (alias : List ℕ) (all : List PredTree) (keys : List OrderTree) (unordered : Bool) → scan_faults s g scope t alias all keys unordered ≡ []
+pub scan_parts : (s : Schema) (g : Grants) (scope : Shapes) (t : ℕ) (alias : List ℕ) (all : List PredTree) (keys : List OrderTree)
+    (unordered : Bool)
+    → scan_faults s g scope t alias all keys unordered ≡ []
     → (stand_among all (filter_conjuncts s g t) alias ≡ true) × ((has_run s scope t alias (orders_of keys) || unordered) ≡ true)
 scan_parts s g scope t alias all keys unordered h =
     let one : List Fault = needs (is_some (slice_index_or g t None)) 1 alias in
     let two : List Fault = needs (stand_among all (filter_conjuncts s g t) alias) 2 alias in
     let last : List Fault = needs (has_run s scope t alias (orders_of keys) || unordered) 6 alias in
-    let front = left_none (one ++ two) last h in
-    (needed (stand_among all (filter_conjuncts s g t) alias) 2 alias (right_none one two front), needed (has_run s scope t alias (orders_of keys) || unordered) 6 alias (right_none (one ++ two) last h))
+    let front = left_none (one ++ two) last h in (
+      needed (stand_among all (filter_conjuncts s g t) alias) 2 alias (right_none one two front),
+      needed (has_run s scope t alias (orders_of keys) || unordered) 6 alias (right_none (one ++ two) last h),
+    )
 
 zip_has : (R : NamedRow → NamedRow → Type 0) (xs ys : List NamedRow) → Zip R xs ys → has_rows xs ≡ has_rows ys
 zip_has R [] [] h = refl
@@ -162,19 +171,26 @@ module _ (s : Schema) (g : Grants) (tables : List Table) (d e : List (List Row))
   other_size : (t n : ℕ) → n < length (permitted s g d t) → n < length (permitted s g e t)
   other_size t n lt = subst (λ k. n < k) (o.sizes t) lt
 
-  carries_filter : (all : List PredTree) (scope : Shapes) (x y : Scope) → Ok scope x y → (a : List ℕ) (t : ℕ) → shape_at scope a ≡ scan t → (p : PredTree) → is_one_of (filter_conjuncts s g t) a p ≡ true → Carries all x y p
+  carries_filter : (all : List PredTree) (scope : Shapes) (x y : Scope) → Ok scope x y → (a : List ℕ) (t : ℕ) → shape_at scope a ≡ scan t
+      → (p : PredTree) → is_one_of (filter_conjuncts s g t) a p ≡ true → Carries all x y p
   carries_filter all scope x y h a t at p k =
       let row = scan_rel scope x y h a t at in
       let lt = other_size t row.0 row.2 in
-      let in_d : is_so V x p ≡ true = kept_one s tables d bd (grant g t).filter t (filters t) a (slice_index_or (permitted s g d t) row.0 []) (narrow_at s g tables d bd filters t row.0 row.2) x row.3 (kept_at s g tables d bd filters t row.0 row.2) p k in
-      let in_e : is_so W y p ≡ true = kept_one s tables e be (grant g t).filter t (filters t) a (slice_index_or (permitted s g e t) row.0 []) (narrow_at s g tables e be filters t row.0 lt) y row.4 (kept_at s g tables e be filters t row.0 lt) p k in
+      let in_d : is_so V x p ≡ true =
+      kept_one s tables d bd (grant g t).filter t (filters t) a (slice_index_or (permitted s g d t) row.0 [])
+      (narrow_at s g tables d bd filters t row.0 row.2) x row.3 (kept_at s g tables d bd filters t row.0 row.2) p k in
+      let in_e : is_so W y p ≡ true =
+      kept_one s tables e be (grant g t).filter t (filters t) a (slice_index_or (permitted s g e t) row.0 [])
+      (narrow_at s g tables e be filters t row.0 lt) y row.4 (kept_at s g tables e be filters t row.0 lt) p k in
       ((λ f z. in_e), (λ f z. in_d))
 
   abbrev Linked : (u : ℕ) → Rel → Type 0
   Linked u r = (p q : ℕ) → p < length (permitted s g d u) → q < length (permitted s g d r.remote)
-      → linked_by r.pairs (slice_index_or (permitted s g d u) p []) (slice_index_or (permitted s g d r.remote) q []) ≡ linked_by r.pairs (slice_index_or (permitted s g e u) p []) (slice_index_or (permitted s g e r.remote) q [])
+      → linked_by r.pairs (slice_index_or (permitted s g d u) p []) (slice_index_or (permitted s g d r.remote) q [])
+      ≡ linked_by r.pairs (slice_index_or (permitted s g e u) p []) (slice_index_or (permitted s g e r.remote) q [])
 
-  carries_rel : (all : List PredTree) (scope : Shapes) (x y : Scope) → Ok scope x y → (a : List ℕ) (t : ℕ) → shape_at scope a ≡ scan t → (p : PredTree) (q : Equation) → equation p ≡ Some q → (u : ℕ) → shape_at scope q.own_alias ≡ scan u
+  carries_rel : (all : List PredTree) (scope : Shapes) (x y : Scope) → Ok scope x y → (a : List ℕ) (t : ℕ) → shape_at scope a ≡ scan t
+      → (p : PredTree) (q : Equation) → equation p ≡ Some q → (u : ℕ) → shape_at scope q.own_alias ≡ scan u
       → (r : Rel) → is_whole_link s all t u a q.own_alias q r ≡ true → Linked u r → Carries all x y p
   carries_rel all scope x y h a t at p q eq u own_at r whole linked =
       let b : List ℕ = q.own_alias in
@@ -188,7 +204,11 @@ module _ (s : Schema) (g : Grants) (tables : List Table) (d e : List (List Row))
       let od : Row = slice_index_or (permitted s g d u) own.0 [] in
       let oe : Row = slice_index_or (permitted s g e u) own.0 [] in
       let alike : linked_by r.pairs od fd ≡ linked_by r.pairs oe fe =
-      subst (λ n. far.0 < length (permitted s g d n) → linked_by r.pairs od (slice_index_or (permitted s g d n) far.0 []) ≡ linked_by r.pairs oe (slice_index_or (permitted s g e n) far.0 [])) same (λ lt. linked own.0 far.0 own.2 lt) far.2 in
+      subst
+      (λ n. far.0 < length (permitted s g d n)
+      → linked_by r.pairs od (slice_index_or (permitted s g d n) far.0 [])
+      ≡ linked_by r.pairs oe (slice_index_or (permitted s g e n) far.0 []))
+      same (λ lt. linked own.0 far.0 own.2 lt) far.2 in
       let far_d = row_names s t fd (bd.sound.differ t) (narrow_at s g tables d bd filters t far.0 far.2) in
       let own_d = row_names s u od (bd.sound.differ u) (narrow_at s g tables d bd filters u own.0 own.2) in
       let far_e = row_names s t fe (be.sound.differ t) (narrow_at s g tables e be filters t far.0 (other_size t far.0 far.2)) in
@@ -197,24 +217,34 @@ module _ (s : Schema) (g : Grants) (tables : List Table) (d e : List (List Row))
         (λ k z. so_linked s V t u a b fd od x far.3 own.3 far_d own_d r.pairs p q eq inner.1 (alike ∙ linked_so s W t u a b fe oe y far.4 own.4 far_e own_e r.pairs all outer.1 k)),
       )
 
-  carries_link : (all : List PredTree) (scope : Shapes) (x y : Scope) → Ok scope x y → (a : List ℕ) (t : ℕ) → shape_at scope a ≡ scan t → (p : PredTree) → is_linking s scope all t a (equation p) ≡ true → Carries all x y p
+  carries_link : (all : List PredTree) (scope : Shapes) (x y : Scope) → Ok scope x y → (a : List ℕ) (t : ℕ) → shape_at scope a ≡ scan t
+      → (p : PredTree) → is_linking s scope all t a (equation p) ≡ true → Carries all x y p
   carries_link all scope x y h a t at p k =
       let shapes : (q : Equation) → equation p ≡ Some q → (sh : Shape) → shape_at scope q.own_alias ≡ sh → links_shape s all t a q sh ≡ true → Carries all x y p =
       λ q eq. elim [
         | scan u ↦ λ own_at f.
-            let found = found_each (is_whole_link s all t u a q.own_alias q) (Linked u) (λ r. (is_whole_link s all t u a q.own_alias q r ≡ true) × Linked u r) (table s u).rels f (o.links u) (λ r i z. (i, z)) in
+            let found =
+            found_each (is_whole_link s all t u a q.own_alias q) (Linked u)
+            (λ r. (is_whole_link s all t u a q.own_alias q r ≡ true) × Linked u r) (table s u).rels f (o.links u) (λ r i z. (i, z)) in
             carries_rel all scope x y h a t at p q eq u own_at found.0 found.1.0 found.1.1
         | shows os ↦ λ own_at f. cc
       ] in
       let go : (q : Option Equation) → equation p ≡ q → is_linking s scope all t a q ≡ true → Carries all x y p =
-      elim [ None ↦ λ eq f. cc | Some q ↦ λ eq f. shapes q eq (shape_at scope q.own_alias) refl (and_parts (not (bytes_eq a q.own_alias)) (links_shape s all t a q (shape_at scope q.own_alias)) f).1 ] in
+      elim [
+        | None ↦ λ eq f. cc
+        | Some q
+            ↦ λ eq f. shapes q eq (shape_at scope q.own_alias) refl
+            (and_parts (not (bytes_eq a q.own_alias)) (links_shape s all t a q (shape_at scope q.own_alias)) f).1
+      ]
+      in
       go (equation p) refl k
 
   -- what is exempt carries
   abbrev Exempts : List PredTree → Scope → Scope → (PredTree → Bool) → Type 0
   Exempts all x y ex = (p : PredTree) → ex p ≡ true → Carries all x y p
 
-  exempts_table : (all : List PredTree) (scope : Shapes) (x y : Scope) → Ok scope x y → (schema name a : List ℕ) → shape_at scope a ≡ scan (table_place s schema name) → Exempts all x y (is_exempt s g scope all (tree.table schema name a))
+  exempts_table : (all : List PredTree) (scope : Shapes) (x y : Scope) → Ok scope x y → (schema name a : List ℕ)
+      → shape_at scope a ≡ scan (table_place s schema name) → Exempts all x y (is_exempt s g scope all (tree.table schema name a))
   exempts_table all scope x y h schema name a at p k =
       let t : ℕ = table_place s schema name in
       let go : (b : Bool) → is_one_of (filter_conjuncts s g t) a p ≡ b → (b || is_linking s scope all t a (equation p)) ≡ true → Carries all x y p =
@@ -224,11 +254,17 @@ module _ (s : Schema) (g : Grants) (tables : List Table) (d e : List (List Row))
   -- ---- parts of rows
 
   -- sort, groups, limits and outputs of related rows
-  finish : (scope : Shapes) (outs : List OutTree) (distinct : List ExprTree) (keys : List OrderTree) (limit offset : Option ℕ) → exprs_faults s g scope distinct ≡ [] → orders_faults s g scope 0 (orders_of keys) ≡ [] → outs_faults s g scope outs ≡ []
+  finish : (scope : Shapes) (outs : List OutTree) (distinct : List ExprTree) (keys : List OrderTree) (limit offset : Option ℕ)
+      → exprs_faults s g scope distinct ≡ [] → orders_faults s g scope 0 (orders_of keys) ≡ [] → outs_faults s g scope outs ≡ []
       → (xs ys : List Scope) → Zip (Ok scope) xs ys
-      → Zip (Row2 (shows (output_origins s scope outs))) (map (outputs outs []) (limited limit (offset_by offset (distinct_on distinct (sort (order_cmp keys) xs))))) (map (outputs outs []) (limited limit (offset_by offset (distinct_on distinct (sort (order_cmp keys) ys)))))
+      → Zip (Row2 (shows (output_origins s scope outs)))
+      (map (outputs outs []) (limited limit (offset_by offset (distinct_on distinct (sort (order_cmp keys) xs)))))
+      (map (outputs outs []) (limited limit (offset_by offset (distinct_on distinct (sort (order_cmp keys) ys)))))
   finish scope outs distinct keys limit offset kd ko ku xs ys z =
-      let sorted = zip_sort (Ok scope) (order_cmp keys) (order_cmp keys) (λ x y u w p q. order_same keys x u ∙ orders_alike s g d e o scope 0 (orders_of keys) ko x y u w p q ∙ sym (order_same keys y w)) xs ys z in
+      let sorted =
+      zip_sort (Ok scope) (order_cmp keys) (order_cmp keys)
+      (λ x y u w p q. order_same keys x u ∙ orders_alike s g d e o scope 0 (orders_of keys) ko x y u w p q ∙ sym (order_same keys y w))
+      xs ys z in
       let groups = distinct_alike s g d e o scope distinct kd (sort (order_cmp keys) xs) (sort (order_cmp keys) ys) sorted in
       zip_images (Ok scope) (Row2 (shows (output_origins s scope outs))) (outputs outs []) (outputs outs []) (λ x y r. outs_alike s g d e o scope outs ku x y r) _ _
       (zip_limited (Ok scope) limit _ _ (zip_offset (Ok scope) offset _ _ groups))
@@ -237,7 +273,9 @@ module _ (s : Schema) (g : Grants) (tables : List Table) (d e : List (List Row))
       → ((x y : Scope) → Ok ((a, scan (table_place s schema name)) ∷ scope) x y → Zip (Ok (joined_shapes s g ((a, scan (table_place s schema name)) ∷ scope) js)) (joined js V x) (joined js W y))
       → ((x y : Scope) → Ok (joined_shapes s g ((a, scan (table_place s schema name)) ∷ scope) js) x y → kept c V x ≡ kept c W y)
       → (x y : Scope) → Ok scope x y
-      → Zip (Ok (joined_shapes s g ((a, scan (table_place s schema name)) ∷ scope) js)) (filter (kept c V) (flat_map (joined js V) (map (with_alias x a) (rows_named tables V.database schema name)))) (filter (kept c W) (flat_map (joined js W) (map (with_alias y a) (rows_named tables W.database schema name))))
+      → Zip (Ok (joined_shapes s g ((a, scan (table_place s schema name)) ∷ scope) js))
+      (filter (kept c V) (flat_map (joined js V) (map (with_alias x a) (rows_named tables V.database schema name))))
+      (filter (kept c W) (flat_map (joined js W) (map (with_alias y a) (rows_named tables W.database schema name))))
   scan_start scope schema name a c js stand fresh J K x y h =
       let t : ℕ = table_place s schema name in
       let here : Shapes = (a, scan t) ∷ scope in
@@ -279,30 +317,41 @@ module _ (s : Schema) (g : Grants) (tables : List Table) (d e : List (List Row))
       (let r : Row = slice_index_or (permitted s g d t) row.0 [] in
       let at : with_alias x m.one unit m.alias ≡ named_row (table s t).columns r = stays x ∙ row.3 in
       let cell : cell_named (with_alias x m.one unit m.alias) m.name ≡ row_cell r m.c = ap (λ z. cell_named z m.name) at ∙ cell_at_place s t r m.name ∙ ap (cell_in r) m.column in
-      ap₂ (λ b z. cond b z null) (exactly s tables d bd (mask_of (grant g t).masks m.c) t (masks t m.c) m.alias r (narrow_at s g tables d bd filters t row.0 row.2) (with_alias x m.one unit) at m.condition m.stand m.ones) cell) in
+      ap₂ (λ b z. cond b z null)
+      (exactly s tables d bd (mask_of (grant g t).masks m.c) t (masks t m.c) m.alias r (narrow_at s g tables d bd filters t row.0 row.2)
+      (with_alias x m.one unit) at m.condition m.stand m.ones)
+      cell) in
       let shows_e : cond (kept m.condition W (with_alias y m.one unit)) (cell_named (with_alias y m.one unit m.alias) m.name) null ≡ shown s g e t (slice_index_or (permitted s g e t) row.0 []) m.c =
       (let r : Row = slice_index_or (permitted s g e t) row.0 [] in
       let at : with_alias y m.one unit m.alias ≡ named_row (table s t).columns r = stays y ∙ row.4 in
       let cell : cell_named (with_alias y m.one unit m.alias) m.name ≡ row_cell r m.c = ap (λ z. cell_named z m.name) at ∙ cell_at_place s t r m.name ∙ ap (cell_in r) m.column in
-      ap₂ (λ b z. cond b z null) (exactly s tables e be (mask_of (grant g t).masks m.c) t (masks t m.c) m.alias r (narrow_at s g tables e be filters t row.0 (other_size t row.0 row.2)) (with_alias y m.one unit) at m.condition m.stand m.ones) cell) in
+      ap₂ (λ b z. cond b z null)
+      (exactly s tables e be (mask_of (grant g t).masks m.c) t (masks t m.c) m.alias r
+      (narrow_at s g tables e be filters t row.0 (other_size t row.0 row.2)) (with_alias y m.one unit) at m.condition m.stand m.ones)
+      cell) in
       subst (λ z. Zip (Row2 (shows [])) (or_null_row (rows_of z V x)) (or_null_row (rows_of z W y))) (sym m.is)
-      (mask_zip m.out (cell_named (with_alias x m.one unit m.alias) m.name) (cell_named (with_alias y m.one unit m.alias) m.name) (with_alias x m.one unit) (with_alias y m.one unit) (outputs out []) refl refl
+      (mask_zip m.out (cell_named (with_alias x m.one unit m.alias) m.name) (cell_named (with_alias y m.one unit m.alias) m.name)
+      (with_alias x m.one unit) (with_alias y m.one unit) (outputs out []) refl refl
       (kept m.condition V (with_alias x m.one unit)) (kept m.condition W (with_alias y m.one unit)) (shows_d ∙ o.shows t m.c m.permitted row.0 ∙ sym shows_e))
 
   -- ---- tests, and what is exempt or without faults
 
-  test_alike : (v : ExprTree) (t : Test) (es : List ExprTree) (scope : Shapes) → expr_faults s g scope v ++ exprs_faults s g scope es ≡ [] → (x y : Scope) → Ok scope x y → truth_at (tree.test v t es) V x ≡ truth_at (tree.test v t es) W y
+  test_alike : (v : ExprTree) (t : Test) (es : List ExprTree) (scope : Shapes) → expr_faults s g scope v ++ exprs_faults s g scope es ≡ []
+      → (x y : Scope) → Ok scope x y → truth_at (tree.test v t es) V x ≡ truth_at (tree.test v t es) W y
   test_alike v t es scope h x y r =
-      ap₂ (test_truth t) (plain_alike s g d e o scope v (left_none (expr_faults s g scope v) (exprs_faults s g scope es) h) x y r) (values_alike s g d e o scope es (right_none (expr_faults s g scope v) (exprs_faults s g scope es) h) x y r)
+      ap₂ (test_truth t) (plain_alike s g d e o scope v (left_none (expr_faults s g scope v) (exprs_faults s g scope es) h) x y r)
+      (values_alike s g d e o scope es (right_none (expr_faults s g scope v) (exprs_faults s g scope es) h) x y r)
 
-  unless_carries : (all : List PredTree) (x y : Scope) (p : PredTree) (b : Bool) (faults : List Fault) → (b ≡ true → Carries all x y p) → (faults ≡ [] → truth_at p V x ≡ truth_at p W y) → cond b [] faults ≡ [] → Carries all x y p
+  unless_carries : (all : List PredTree) (x y : Scope) (p : PredTree) (b : Bool) (faults : List Fault) → (b ≡ true → Carries all x y p)
+      → (faults ≡ [] → truth_at p V x ≡ truth_at p W y) → cond b [] faults ≡ [] → Carries all x y p
   unless_carries all x y p true faults i same h = i refl
   unless_carries all x y p false faults i same h = carries_same all x y p (same h)
 
   -- ---- the induction
 
   mutual
-    pub rows_alike : (q : SelectTree) (counts : Bool) (scope : Shapes) → Formed q → select_faults s g scope counts q ≡ [] → (x y : Scope) → Ok scope x y → Zip (Row2 (shows (outputs_of s g scope q))) (rows_of q V x) (rows_of q W y)
+    pub rows_alike : (q : SelectTree) (counts : Bool) (scope : Shapes) → Formed q → select_faults s g scope counts q ≡ [] → (x y : Scope)
+        → Ok scope x y → Zip (Row2 (shows (outputs_of s g scope q))) (rows_of q V x) (rows_of q W y)
     rows_alike (tree.rows distinct outs (tree.table schema name a) js c keys limit offset) counts scope f h x y r =
         let t : ℕ = table_place s schema name in
         let here : Shapes = (a, scan t) ∷ scope in
@@ -320,7 +369,9 @@ module _ (s : Schema) (g : Grants) (tables : List Table) (d e : List (List Row))
         let final : Shapes = joined_shapes s g here js in
         let k = six (exprs_faults s g final distinct) (outs_faults s g final outs) (select_faults s g scope true q) (joins_faults s g here js)
         (where_faults s g final (is_exempt s g final (conjuncts c) (tree.sub q a)) c) (orders_faults s g final 0 (orders_of keys)) h in
-        let starts = zip_images (Row2 sh) (Ok here) (with_alias x a) (with_alias y a) (λ p u z. bound_ok s g d e scope sh a x y p u r z) (rows_of q V x) (rows_of q W y) (rows_alike q true scope f.0 k.2 x y r) in
+        let starts =
+        zip_images (Row2 sh) (Ok here) (with_alias x a) (with_alias y a) (λ p u z. bound_ok s g d e scope sh a x y p u r z)
+        (rows_of q V x) (rows_of q W y) (rows_alike q true scope f.0 k.2 x y r) in
         let all = zip_flat (Ok here) (Ok final) (joined js V) (joined js W) (λ p u z. joined_alike js here f.1 k.3 p u z) _ _ starts in
         finish final outs distinct keys limit offset k.0 k.5 k.1 _ _
         (zip_filter (Ok final) (kept c V) (kept c W) (λ p u z. kept_alike c final (is_exempt s g final (conjuncts c) (tree.sub q a)) f.2 k.4 p u z (λ i j. cc)) _ _ all)
@@ -339,43 +390,67 @@ module _ (s : Schema) (g : Grants) (tables : List Table) (d e : List (List Row))
         let here : Shapes = (a, sh) ∷ scope in
         let group = zip_images (Row2 sh) (Ok here) (with_alias x a) (with_alias y a) (λ p u z. bound_ok s g d e scope sh a x y p u r z) (rows_of inner V x) (rows_of inner W y)
         (rows_alike inner (shows_order out.value) scope f.0 (right_none (expr_faults s g here out.value) (select_faults s g scope (shows_order out.value) inner) h) x y r) in
-        let same = fold_alike s g d e o here out.value f.1 (left_none (expr_faults s g here out.value) (select_faults s g scope (shows_order out.value) inner) h) x y (map (with_alias x a) (rows_of inner V x)) (map (with_alias y a) (rows_of inner W y)) group in
+        let same =
+        fold_alike s g d e o here out.value f.1
+        (left_none (expr_faults s g here out.value) (select_faults s g scope (shows_order out.value) inner) h) x y
+        (map (with_alias x a) (rows_of inner V x)) (map (with_alias y a) (rows_of inner W y)) group in
         ((λ p. None, λ m. ap (λ z. cond (bytes_eq out.name m) z null) same), tt)
 
-    joined_alike : (js : JoinTrees) (scope : Shapes) → FormedJoins js → joins_faults s g scope js ≡ [] → (x y : Scope) → Ok scope x y → Zip (Ok (joined_shapes s g scope js)) (joined js V x) (joined js W y)
+    joined_alike : (js : JoinTrees) (scope : Shapes) → FormedJoins js → joins_faults s g scope js ≡ [] → (x y : Scope) → Ok scope x y
+        → Zip (Ok (joined_shapes s g scope js)) (joined js V x) (joined js W y)
     joined_alike tree.no_join scope f h x y r = (r, tt)
     joined_alike (tree.join q a js) scope f h x y r =
         let os : List (List ℕ × Origin) = cond (is_mask_join s g scope q) [] (outputs_of s g scope q) in
         let here : Shapes = (a, shows os) ∷ scope in
         let first = left_none (cond (is_mask_join s g scope q) [] (select_faults s g scope true q)) (joins_faults s g here js) h in
         let rest = right_none (cond (is_mask_join s g scope q) [] (select_faults s g scope true q)) (joins_faults s g here js) h in
-        let go : (b : Bool) → is_mask_join s g scope q ≡ b → cond b [] (select_faults s g scope true q) ≡ [] → Zip (Row2 (shows (cond b [] (outputs_of s g scope q)))) (or_null_row (rows_of q V x)) (or_null_row (rows_of q W y)) =
+        let go : (b : Bool) → is_mask_join s g scope q ≡ b → cond b [] (select_faults s g scope true q) ≡ []
+        → Zip (Row2 (shows (cond b [] (outputs_of s g scope q)))) (or_null_row (rows_of q V x)) (or_null_row (rows_of q W y)) =
         elim [
           | true ↦ λ k n. mask_alike scope q (mask_form s g scope q k) x y r
           | false ↦ λ k n. null_rows (outputs_of s g scope q) (rows_of q V x) (rows_of q W y) (rows_alike q true scope f.0 n x y r)
         ] in
         zip_flat (Ok here) (Ok (joined_shapes s g here js)) (joined js V) (joined js W) (λ p u z. joined_alike js here f.1 rest p u z) _ _
-        (zip_images (Row2 (shows os)) (Ok here) (with_alias x a) (with_alias y a) (λ p u z. bound_ok s g d e scope (shows os) a x y p u r z) (or_null_row (rows_of q V x)) (or_null_row (rows_of q W y)) (go (is_mask_join s g scope q) refl first))
+        (zip_images (Row2 (shows os)) (Ok here) (with_alias x a) (with_alias y a) (λ p u z. bound_ok s g d e scope (shows os) a x y p u r z)
+        (or_null_row (rows_of q V x)) (or_null_row (rows_of q W y)) (go (is_mask_join s g scope q) refl first))
 
-    kept_alike : (c : FilterTree) (scope : Shapes) (ex : PredTree → Bool) → FormedFilter c → where_faults s g scope ex c ≡ [] → (x y : Scope) → Ok scope x y → Exempts (conjuncts c) x y ex → kept c V x ≡ kept c W y
+    kept_alike : (c : FilterTree) (scope : Shapes) (ex : PredTree → Bool) → FormedFilter c → where_faults s g scope ex c ≡ []
+        → (x y : Scope) → Ok scope x y → Exempts (conjuncts c) x y ex → kept c V x ≡ kept c W y
     kept_alike tree.no_filter scope ex f h x y r i = refl
     kept_alike (tree.filter p) scope ex f h x y r i = where_alike (tree.filter p) x y (top_alike p (opened p) scope ex f h x y r i)
 
-    top_alike : (p : PredTree) (all : List PredTree) (scope : Shapes) (ex : PredTree → Bool) → FormedPred p → conjunct_faults s g scope ex p ≡ [] → (x y : Scope) → Ok scope x y → Exempts all x y ex → Each (Carries all x y) (opened p)
+    top_alike : (p : PredTree) (all : List PredTree) (scope : Shapes) (ex : PredTree → Bool) → FormedPred p
+        → conjunct_faults s g scope ex p ≡ [] → (x y : Scope) → Ok scope x y → Exempts all x y ex → Each (Carries all x y) (opened p)
     top_alike tree.always all scope ex f h x y r i = tt
     top_alike tree.never all scope ex f h x y r i = (carries_same all x y tree.never refl, tt)
     top_alike (tree.test v t es) all scope ex f h x y r i =
         (unless_carries all x y (tree.test v t es) (ex (tree.test v t es)) (expr_faults s g scope v ++ exprs_faults s g scope es) (i (tree.test v t es)) (λ n. test_alike v t es scope n x y r) h, tt)
-    top_alike (tree.negation p) all scope ex f h x y r i = (unless_carries all x y (tree.negation p) (ex (tree.negation p)) (pred_faults s g scope p) (i (tree.negation p)) (λ n. ap not3 (pred_alike p scope f n x y r)) h, tt)
+    top_alike (tree.negation p) all scope ex f h x y r i = (
+      unless_carries all x y (tree.negation p) (ex (tree.negation p)) (pred_faults s g scope p) (i (tree.negation p))
+          (λ n. ap not3 (pred_alike p scope f n x y r)) h,
+      tt,
+    )
     top_alike (tree.all_of ps) all scope ex f h x y r i = tops_alike ps all scope ex f h x y r i
-    top_alike (tree.any_of ps) all scope ex f h x y r i = (unless_carries all x y (tree.any_of ps) (ex (tree.any_of ps)) (preds_faults s g scope ps) (i (tree.any_of ps)) (λ n. any_alike ps scope f n x y r) h, tt)
-    top_alike (tree.exists q) all scope ex f h x y r i =
-        (unless_carries all x y (tree.exists q) (ex (tree.exists q)) (select_faults s g scope false q) (i (tree.exists q)) (λ n. ap truth_of (zip_has (Row2 (shows (outputs_of s g scope q))) (rows_of q V x) (rows_of q W y) (rows_alike q false scope f n x y r))) h, tt)
+    top_alike (tree.any_of ps) all scope ex f h x y r i = (
+      unless_carries all x y (tree.any_of ps) (ex (tree.any_of ps)) (preds_faults s g scope ps) (i (tree.any_of ps))
+          (λ n. any_alike ps scope f n x y r) h,
+      tt,
+    )
+    top_alike (tree.exists q) all scope ex f h x y r i = (
+      unless_carries all x y (tree.exists q) (ex (tree.exists q)) (select_faults s g scope false q) (i (tree.exists q))
+          (λ n. ap truth_of
+          (zip_has (Row2 (shows (outputs_of s g scope q))) (rows_of q V x) (rows_of q W y) (rows_alike q false scope f n x y r)))
+          h,
+      tt,
+    )
 
-    tops_alike : (ps : PredTrees) (all : List PredTree) (scope : Shapes) (ex : PredTree → Bool) → FormedPreds ps → conjuncts_faults s g scope ex ps ≡ [] → (x y : Scope) → Ok scope x y → Exempts all x y ex → Each (Carries all x y) (all_opened ps)
+    tops_alike : (ps : PredTrees) (all : List PredTree) (scope : Shapes) (ex : PredTree → Bool) → FormedPreds ps
+        → conjuncts_faults s g scope ex ps ≡ [] → (x y : Scope) → Ok scope x y → Exempts all x y ex → Each (Carries all x y) (all_opened ps)
     tops_alike tree.no_pred all scope ex f h x y r i = tt
     tops_alike (tree.pred p ps) all scope ex f h x y r i =
-        each_append (Carries all x y) (opened p) (all_opened ps) (top_alike p all scope ex f.0 (left_none (conjunct_faults s g scope ex p) (conjuncts_faults s g scope ex ps) h) x y r i) (tops_alike ps all scope ex f.1 (right_none (conjunct_faults s g scope ex p) (conjuncts_faults s g scope ex ps) h) x y r i)
+        each_append (Carries all x y) (opened p) (all_opened ps)
+        (top_alike p all scope ex f.0 (left_none (conjunct_faults s g scope ex p) (conjuncts_faults s g scope ex ps) h) x y r i)
+        (tops_alike ps all scope ex f.1 (right_none (conjunct_faults s g scope ex p) (conjuncts_faults s g scope ex ps) h) x y r i)
 
     pred_alike : (p : PredTree) (scope : Shapes) → FormedPred p → pred_faults s g scope p ≡ [] → (x y : Scope) → Ok scope x y → truth_at p V x ≡ truth_at p W y
     pred_alike tree.always scope f h x y r = refl
@@ -389,9 +464,11 @@ module _ (s : Schema) (g : Grants) (tables : List Table) (d e : List (List Row))
     all_alike : (ps : PredTrees) (scope : Shapes) → FormedPreds ps → preds_faults s g scope ps ≡ [] → (x y : Scope) → Ok scope x y → all_true ps V x ≡ all_true ps W y
     all_alike tree.no_pred scope f h x y r = refl
     all_alike (tree.pred p ps) scope f h x y r =
-        ap₂ and3 (pred_alike p scope f.0 (left_none (pred_faults s g scope p) (preds_faults s g scope ps) h) x y r) (all_alike ps scope f.1 (right_none (pred_faults s g scope p) (preds_faults s g scope ps) h) x y r)
+        ap₂ and3 (pred_alike p scope f.0 (left_none (pred_faults s g scope p) (preds_faults s g scope ps) h) x y r)
+        (all_alike ps scope f.1 (right_none (pred_faults s g scope p) (preds_faults s g scope ps) h) x y r)
 
     any_alike : (ps : PredTrees) (scope : Shapes) → FormedPreds ps → preds_faults s g scope ps ≡ [] → (x y : Scope) → Ok scope x y → any_true ps V x ≡ any_true ps W y
     any_alike tree.no_pred scope f h x y r = refl
     any_alike (tree.pred p ps) scope f h x y r =
-        ap₂ or3 (pred_alike p scope f.0 (left_none (pred_faults s g scope p) (preds_faults s g scope ps) h) x y r) (any_alike ps scope f.1 (right_none (pred_faults s g scope p) (preds_faults s g scope ps) h) x y r)
+        ap₂ or3 (pred_alike p scope f.0 (left_none (pred_faults s g scope p) (preds_faults s g scope ps) h) x y r)
+        (any_alike ps scope f.1 (right_none (pred_faults s g scope p) (preds_faults s g scope ps) h) x y r)

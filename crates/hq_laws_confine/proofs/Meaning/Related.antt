@@ -50,7 +50,8 @@ order_same [] x u = refl
 order_same (k ∷ ks) x u = ap (ordering_then (key_cmp k.desc k.nulls_first (value k.value [] x) (value k.value [] u))) (order_same ks x u)
 
 -- sort keys that begin with a run compare the rows at its end first
-pub run_cmp : (s : Schema) (scope : Shapes) (t : ℕ) (path : Path) (x u : Scope) (X U : Row) → ((y : ExprTree) (c : ℕ) → origin s scope y ≡ of t path c → (value y [] x ≡ row_cell X c) × (value y [] u ≡ row_cell U c))
+pub run_cmp : (s : Schema) (scope : Shapes) (t : ℕ) (path : Path) (x u : Scope) (X U : Row)
+    → ((y : ExprTree) (c : ℕ) → origin s scope y ≡ of t path c → (value y [] x ≡ row_cell X c) × (value y [] u ≡ row_cell U c))
     → (cs : List ℕ) (os : OrderTrees) → is_run s scope t path cs os ≡ true → orders_cmp os x u ≡ ordering_then (columns_cmp cs X U) (orders_cmp (later_orders (length cs) os) x u)
 run_cmp s scope t path x u X U at [] os h = refl
 run_cmp s scope t path x u X U at (c ∷ cs) tree.no_order h = cc
@@ -105,12 +106,16 @@ module _ (s : Schema) (g : Grants) (d e : List (List Row)) where
   cell_rel P (scan t) a n x y h =
       let go : (o : Option ℕ) → CellRel (column_of t a o) P (cell_in (slice_index_or (permitted s g d t) h.0 []) o) (cell_in (slice_index_or (permitted s g e t) h.0 []) o) =
       elim [ None ↦ refl | Some c ↦ (sym (ap (λ o. row_cell (row_at s g d t o) c) h.1), sym (ap (λ o. row_cell (row_at s g e t o) c) h.1)) ] in
-      let in_d : cell_named x n ≡ cell_in (slice_index_or (permitted s g d t) h.0 []) (column_place s t n) = ap (λ r. cell_named r n) h.3 ∙ cell_at_place s t (slice_index_or (permitted s g d t) h.0 []) n in
-      let in_e : cell_named y n ≡ cell_in (slice_index_or (permitted s g e t) h.0 []) (column_place s t n) = ap (λ r. cell_named r n) h.4 ∙ cell_at_place s t (slice_index_or (permitted s g e t) h.0 []) n in
+      let in_d : cell_named x n ≡ cell_in (slice_index_or (permitted s g d t) h.0 []) (column_place s t n) =
+      ap (λ r. cell_named r n) h.3 ∙ cell_at_place s t (slice_index_or (permitted s g d t) h.0 []) n in
+      let in_e : cell_named y n ≡ cell_in (slice_index_or (permitted s g e t) h.0 []) (column_place s t n) =
+      ap (λ r. cell_named r n) h.4 ∙ cell_at_place s t (slice_index_or (permitted s g e t) h.0 []) n in
       subst (λ z. CellRel (column_of t a (column_place s t n)) P z (cell_named y n)) (sym in_d)
       (subst (λ z. CellRel (column_of t a (column_place s t n)) P (cell_in (slice_index_or (permitted s g d t) h.0 []) (column_place s t n)) z) (sym in_e) (go (column_place s t n)))
   cell_rel P (shows os) a n x y h =
-      let go : (o : Origin) → CellRel o (λ path. P (a ∷ path)) (cell_named x n) (cell_named y n) → CellRel (behind a o) P (cell_named x n) (cell_named y n) = elim [ made ↦ λ r. r | of t p k ↦ λ r. r ] in
+      let go : (o : Origin) → CellRel o (λ path. P (a ∷ path)) (cell_named x n) (cell_named y n)
+      → CellRel (behind a o) P (cell_named x n) (cell_named y n) =
+      elim [ made ↦ λ r. r | of t p k ↦ λ r. r ] in
       go (output_named os n) (h n)
 
   pub cell_ok : (scope : Shapes) (P : Path → Option ℕ) (x y : Scope) → ScopeRel scope P x y → (a n : List ℕ) → CellRel (origin_at s scope a n) P (cell_named (x a) n) (cell_named (y a) n)
@@ -120,10 +125,16 @@ module _ (s : Schema) (g : Grants) (d e : List (List Row)) where
   null_ok os = (λ path. None, λ n. let go : (o : Origin) → CellRel o (λ path. None) null null = elim [ made ↦ refl | of t p k ↦ (refl, refl) ] in go (output_named os n))
 
   -- the permitted rows of a table
-  pub scans_ok : (t : ℕ) → length (permitted s g d t) ≡ length (permitted s g e t) → Zip (RowOk (scan t)) (map (named_row (table s t).columns) (permitted s g d t)) (map (named_row (table s t).columns) (permitted s g e t))
+  pub scans_ok : (t : ℕ) → length (permitted s g d t) ≡ length (permitted s g e t)
+      → Zip (RowOk (scan t)) (map (named_row (table s t).columns) (permitted s g d t))
+      (map (named_row (table s t).columns) (permitted s g e t))
   scans_ok t same =
-      zip_images (λ x y. (p : ℕ) × (p < length (permitted s g d t)) × (x ≡ slice_index_or (permitted s g d t) p []) × (y ≡ slice_index_or (permitted s g e t) p [])) (RowOk (scan t)) (named_row (table s t).columns) (named_row (table s t).columns)
-      (λ x y r. (λ path. Some r.0, (r.0, refl, r.1, ap (named_row (table s t).columns) r.2, ap (named_row (table s t).columns) r.3))) (permitted s g d t) (permitted s g e t) (zip_places [] (permitted s g d t) (permitted s g e t) same)
+      zip_images
+      (λ x y. (p : ℕ) × (p < length (permitted s g d t)) × (x ≡ slice_index_or (permitted s g d t) p [])
+      × (y ≡ slice_index_or (permitted s g e t) p []))
+      (RowOk (scan t)) (named_row (table s t).columns) (named_row (table s t).columns)
+      (λ x y r. (λ path. Some r.0, (r.0, refl, r.1, ap (named_row (table s t).columns) r.2, ap (named_row (table s t).columns) r.3)))
+      (permitted s g d t) (permitted s g e t) (zip_places [] (permitted s g d t) (permitted s g e t) same)
 
   -- a value whose origin is a column
   pub origin_value : (scope : Shapes) (P : Path → Option ℕ) (x y : Scope) → ScopeRel scope P x y → (v : ExprTree) (t : ℕ) (path : Path) (c : ℕ) → origin s scope v ≡ of t path c
@@ -147,7 +158,8 @@ module _ (s : Schema) (g : Grants) (d e : List (List Row)) where
       mutual
         pub plain_alike : (v : ExprTree) → expr_faults s g scope v ≡ [] → (x y : Scope) → ScopeOk scope x y → value v [] x ≡ value v [] y
         plain_alike (tree.column a n form) k x y h =
-            plain_cell h.0 (origin_at s scope a n) (cell_named (x a) n) (cell_named (y a) n) (needed (is_plain g (origin_at s scope a n)) (rule_of s g (origin_at s scope a n)) a k) (cell_ok scope h.0 x y h.1 a n)
+            plain_cell h.0 (origin_at s scope a n) (cell_named (x a) n) (cell_named (y a) n)
+            (needed (is_plain g (origin_at s scope a n)) (rule_of s g (origin_at s scope a n)) a k) (cell_ok scope h.0 x y h.1 a n)
         plain_alike (tree.int n) k x y h = refl
         plain_alike (tree.text t) k x y h = refl
         plain_alike (tree.uuid t) k x y h = refl
@@ -158,12 +170,14 @@ module _ (s : Schema) (g : Grants) (d e : List (List Row)) where
         pairs_alike : (ps : PairTrees) → pairs_faults s g scope ps ≡ [] → (x y : Scope) → ScopeOk scope x y → members ps [] x ≡ members ps [] y
         pairs_alike tree.no_pair k x y h = refl
         pairs_alike (tree.pair n v ps) k x y h =
-            ap₂ (λ c m. member n (json_of c) m) (plain_alike v (left_none (expr_faults s g scope v) (pairs_faults s g scope ps) k) x y h) (pairs_alike ps (right_none (expr_faults s g scope v) (pairs_faults s g scope ps) k) x y h)
+            ap₂ (λ c m. member n (json_of c) m) (plain_alike v (left_none (expr_faults s g scope v) (pairs_faults s g scope ps) k) x y h)
+            (pairs_alike ps (right_none (expr_faults s g scope v) (pairs_faults s g scope ps) k) x y h)
 
       pub values_alike : (es : List ExprTree) → exprs_faults s g scope es ≡ [] → (x y : Scope) → ScopeOk scope x y → map (λ v. value v [] x) es ≡ map (λ v. value v [] y) es
       values_alike [] k x y h = refl
       values_alike (v ∷ es) k x y h =
-          ap₂ (λ c l. c ∷ l) (plain_alike v (left_none (expr_faults s g scope v) (exprs_faults s g scope es) k) x y h) (values_alike es (right_none (expr_faults s g scope v) (exprs_faults s g scope es) k) x y h)
+          ap₂ (λ c l. c ∷ l) (plain_alike v (left_none (expr_faults s g scope v) (exprs_faults s g scope es) k) x y h)
+          (values_alike es (right_none (expr_faults s g scope v) (exprs_faults s g scope es) k) x y h)
 
       -- ---- outputs
 
@@ -176,12 +190,16 @@ module _ (s : Schema) (g : Grants) (d e : List (List Row)) where
       out_alike P x y h (tree.object ps) k = plain_alike (tree.object ps) k x y (P, h)
       out_alike P x y h (tree.aggregate a) k = refl
 
-      outs_rel : (P : Path → Option ℕ) (x y : Scope) → ScopeRel scope P x y → (outs : List OutTree) → outs_faults s g scope outs ≡ [] → RowRel (shows (output_origins s scope outs)) P (outputs outs [] x) (outputs outs [] y)
+      outs_rel : (P : Path → Option ℕ) (x y : Scope) → ScopeRel scope P x y → (outs : List OutTree) → outs_faults s g scope outs ≡ []
+          → RowRel (shows (output_origins s scope outs)) P (outputs outs [] x) (outputs outs [] y)
       outs_rel P x y h [] k n = refl
       outs_rel P x y h (out ∷ outs) k n =
           let later = outs_rel P x y h outs (right_none (out_faults s g scope out.value) (outs_faults s g scope outs) k) n in
           let here = out_alike P x y h out.value (left_none (out_faults s g scope out.value) (outs_faults s g scope outs) k) in
-          let go : (b : Bool) → CellRel (cond b (origin s scope out.value) (output_named (output_origins s scope outs) n)) P (cond b (value out.value [] x) (cell_named (outputs outs [] x) n)) (cond b (value out.value [] y) (cell_named (outputs outs [] y) n)) =
+          let go : (b : Bool)
+          → CellRel (cond b (origin s scope out.value) (output_named (output_origins s scope outs) n)) P
+          (cond b (value out.value [] x) (cell_named (outputs outs [] x) n))
+          (cond b (value out.value [] y) (cell_named (outputs outs [] y) n)) =
           elim [ true ↦ here | false ↦ later ] in
           go (bytes_eq out.name n)
 
@@ -205,11 +223,20 @@ module _ (s : Schema) (g : Grants) (d e : List (List Row)) where
       run_alike : (t : ℕ) (path : Path) (cs : List ℕ) → (table s t).key ≡ cs → (os : OrderTrees) → is_run s scope t path cs os ≡ true → (x y u z : Scope) → ScopeOk scope x y → ScopeOk scope u z
           → orders_cmp (later_orders (length cs) os) x u ≡ orders_cmp (later_orders (length cs) os) y z → orders_cmp os x u ≡ orders_cmp os y z
       run_alike t path cs key os h x y u z p q later =
-          run_cmp s scope t path x u (row_at s g d t (p.0 path)) (row_at s g d t (q.0 path)) (λ v c w. ((origin_value scope p.0 x y p.1 v t path c w).0, (origin_value scope q.0 u z q.1 v t path c w).0)) cs os h
-          ∙ ap₂ ordering_then (subst (λ ks. columns_cmp ks (row_at s g d t (p.0 path)) (row_at s g d t (q.0 path)) ≡ columns_cmp ks (row_at s g e t (p.0 path)) (row_at s g e t (q.0 path))) key (o.orders t (p.0 path) (q.0 path))) later
-          ∙ sym (run_cmp s scope t path y z (row_at s g e t (p.0 path)) (row_at s g e t (q.0 path)) (λ v c w. ((origin_value scope p.0 x y p.1 v t path c w).1, (origin_value scope q.0 u z q.1 v t path c w).1)) cs os h)
+          run_cmp s scope t path x u (row_at s g d t (p.0 path)) (row_at s g d t (q.0 path))
+          (λ v c w. ((origin_value scope p.0 x y p.1 v t path c w).0, (origin_value scope q.0 u z q.1 v t path c w).0)) cs os h
+          ∙ ap₂ ordering_then
+          (subst
+          (λ ks. columns_cmp ks (row_at s g d t (p.0 path)) (row_at s g d t (q.0 path))
+          ≡ columns_cmp ks (row_at s g e t (p.0 path)) (row_at s g e t (q.0 path)))
+          key (o.orders t (p.0 path) (q.0 path)))
+          later
+          ∙ sym
+          (run_cmp s scope t path y z (row_at s g e t (p.0 path)) (row_at s g e t (q.0 path))
+          (λ v c w. ((origin_value scope p.0 x y p.1 v t path c w).1, (origin_value scope q.0 u z q.1 v t path c w).1)) cs os h)
 
-      pub orders_alike : (left : ℕ) (os : OrderTrees) → orders_faults s g scope left os ≡ [] → (x y u z : Scope) → ScopeOk scope x y → ScopeOk scope u z → orders_cmp (later_orders left os) x u ≡ orders_cmp (later_orders left os) y z
+      pub orders_alike : (left : ℕ) (os : OrderTrees) → orders_faults s g scope left os ≡ [] → (x y u z : Scope) → ScopeOk scope x y
+          → ScopeOk scope u z → orders_cmp (later_orders left os) x u ≡ orders_cmp (later_orders left os) y z
       orders_alike zero tree.no_order k x y u z h r = refl
       orders_alike (suc left) tree.no_order k x y u z h r = refl
       orders_alike (suc left) (tree.order v desc nulls_first os) k x y u z h r = orders_alike left os k x y u z h r
@@ -219,7 +246,8 @@ module _ (s : Schema) (g : Grants) (d e : List (List Row)) where
           let plain : rest ≡ [] → orders_cmp all x u ≡ orders_cmp all y z =
           λ f.
           let here = left_none (expr_faults s g scope v) (orders_faults s g scope 0 os) f in
-          ap₂ ordering_then (ap₂ (key_cmp desc nulls_first) (plain_alike v here x y h) (plain_alike v here u z r)) (orders_alike zero os (right_none (expr_faults s g scope v) (orders_faults s g scope 0 os) f) x y u z h r) in
+          ap₂ ordering_then (ap₂ (key_cmp desc nulls_first) (plain_alike v here x y h) (plain_alike v here u z r))
+          (orders_alike zero os (right_none (expr_faults s g scope v) (orders_faults s g scope 0 os) f) x y u z h r) in
           let begun : (t : ℕ) (path : Path) (cs : List ℕ) → (table s t).key ≡ cs → (b : Bool) → is_run s scope t path cs all ≡ b
           → cond (cond b (length cs) 0 == 0) rest (orders_faults s g scope (less_one (cond b (length cs) 0)) os) ≡ [] → orders_cmp all x u ≡ orders_cmp all y z =
           λ t path. elim [
@@ -260,4 +288,6 @@ module _ (s : Schema) (g : Grants) (d e : List (List Row)) where
         folds_alike : (ps : PairTrees) → AllFolded ps → pairs_faults s g scope ps ≡ [] → (x y : Scope) (xs ys : List Scope) → Zip (ScopeOk scope) xs ys → members ps xs x ≡ members ps ys y
         folds_alike tree.no_pair f k x y xs ys z = refl
         folds_alike (tree.pair n v ps) f k x y xs ys z =
-            ap₂ (λ c m. member n (json_of c) m) (fold_alike v f.0 (left_none (expr_faults s g scope v) (pairs_faults s g scope ps) k) x y xs ys z) (folds_alike ps f.1 (right_none (expr_faults s g scope v) (pairs_faults s g scope ps) k) x y xs ys z)
+            ap₂ (λ c m. member n (json_of c) m)
+            (fold_alike v f.0 (left_none (expr_faults s g scope v) (pairs_faults s g scope ps) k) x y xs ys z)
+            (folds_alike ps f.1 (right_none (expr_faults s g scope v) (pairs_faults s g scope ps) k) x y xs ys z)

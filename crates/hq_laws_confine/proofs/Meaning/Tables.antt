@@ -39,11 +39,14 @@ module _ {A : Type 0} (p : A → Bool) where
         | true ↦ λ e. (let lt = ltb-true n (length xs) e in ap (λ b. cond b (Some (1 + n)) None) (lt-ltb (1 + n) (suc (length xs)) (omega (arith, lt))) ∙ ap Some more)
         | false ↦ λ e.
             let ge = ltb-false n (length xs) e in
-            let no : (b : Bool) → nat_lt (1 + n) (suc (length xs)) ≡ b → b ≡ false = elim [ true ↦ λ t. (let lt = ltb-true (1 + n) (suc (length xs)) t in absurd (omega (arith, ge, lt))) | false ↦ λ t. refl ] in
+            let no : (b : Bool) → nat_lt (1 + n) (suc (length xs)) ≡ b → b ≡ false =
+            elim [ true ↦ λ t. (let lt = ltb-true (1 + n) (suc (length xs)) t in absurd (omega (arith, ge, lt))) | false ↦ λ t. refl ] in
             ap (λ b. cond b (Some (1 + n)) None) (no (nat_lt (1 + n) (suc (length xs))) refl)
       ] in
       let here : nat_lt 0 (suc (length xs)) ≡ true = lt-ltb 0 (suc (length xs)) (omega arith) in
-      let go : (b : Bool) → cond (nat_lt (cond (not b) (1 + n) 0) (suc (length xs))) (Some (cond (not b) (1 + n) 0)) None ≡ cond b (Some 0) (option_map suc (cond (nat_lt n (length xs)) (Some n) None)) =
+      let go : (b : Bool)
+      → cond (nat_lt (cond (not b) (1 + n) 0) (suc (length xs))) (Some (cond (not b) (1 + n) 0)) None
+      ≡ cond b (Some 0) (option_map suc (cond (nat_lt n (length xs)) (Some n) None)) =
       elim [ true ↦ ap (λ b. cond b (Some 0) None) here | false ↦ later (nat_lt n (length xs)) refl ] in
       go (p x)
 
@@ -57,7 +60,10 @@ abbrev rest_place : Schema → (schema name : List ℕ) → ℕ
 rest_place s schema name = prefix_len (λ t. not (is_named schema name t)) s
 
 rows_from : (meta : MetaTree) (k : ℕ) (tables : List Table) (d : List (List Row)) (schema name : List ℕ) → length d ≤ length tables
-    → rows_named tables d schema name ≡ map (named_row (table (numbered (schema_table meta) k tables) (rest_place (numbered (schema_table meta) k tables) schema name)).columns) (table_rows d (rest_place (numbered (schema_table meta) k tables) schema name))
+    → rows_named tables d schema name
+    ≡ map
+    (named_row (table (numbered (schema_table meta) k tables) (rest_place (numbered (schema_table meta) k tables) schema name)).columns)
+    (table_rows d (rest_place (numbered (schema_table meta) k tables) schema name))
 rows_from meta k [] [] schema name le = refl
 rows_from meta k [] (rs ∷ d) schema name le = absurd (omega arith)
 rows_from meta k (t ∷ tables) [] schema name le =
@@ -77,7 +83,9 @@ rows_from meta k (t ∷ tables) (rs ∷ d) schema name le =
 
 -- the rows under a name are those of the table at its place
 pub rows_at : (meta : MetaTree) (tables : List Table) (d : List (List Row)) (schema name : List ℕ) → length d ≤ length tables
-    → rows_named tables d schema name ≡ map (named_row (table (schema_of tables meta) (table_place (schema_of tables meta) schema name)).columns) (table_rows d (table_place (schema_of tables meta) schema name))
+    → rows_named tables d schema name
+    ≡ map (named_row (table (schema_of tables meta) (table_place (schema_of tables meta) schema name)).columns)
+    (table_rows d (table_place (schema_of tables meta) schema name))
 rows_at meta tables d schema name le =
     let s : Schema = schema_of tables meta in
     let is : table_place s schema name ≡ rest_place s schema name = place_is (is_named schema name) s in
@@ -124,7 +132,9 @@ file_world tables d = record { tables = tables; database = d }
 abbrev pub key_world : Schema → List Table → List (List Row) → World
 key_world s tables d = record { tables = tables; database = keyed s d }
 
-keyed_at : (s : Schema) (k : ℕ) (d : List (List Row)) (t : ℕ) → table_rows (numbered (λ u rows. sort (columns_cmp (table s u).key) rows) k d) t ≡ sort (columns_cmp (table s (k + t)).key) (table_rows d t)
+keyed_at : (s : Schema) (k : ℕ) (d : List (List Row)) (t : ℕ)
+    → table_rows (numbered (λ u rows. sort (columns_cmp (table s u).key) rows) k d) t
+    ≡ sort (columns_cmp (table s (k + t)).key) (table_rows d t)
 keyed_at s k [] t = refl
 keyed_at s k (rs ∷ d) zero = let same : k + 0 ≡ k = omega arith in ap (λ u. sort (columns_cmp (table s u).key) rs) (sym same)
 keyed_at s k (rs ∷ d) (suc t) = let same : suc k + t ≡ k + suc t = omega arith in keyed_at s (suc k) d t ∙ ap (λ u. sort (columns_cmp (table s u).key) (table_rows d t)) same

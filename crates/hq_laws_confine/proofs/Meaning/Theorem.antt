@@ -60,7 +60,8 @@ statement_made : (s : Schema) (g : Grants) (q : SelectTree) → is_statement_for
 statement_made s g (tree.rows distinct outs (tree.one alias) joins tree.no_filter [] None None) h = output_made s _ outs h
 statement_made s g _ h = cc
 
-first_alike : (s : Schema) (g : Grants) (d e : List (List Row)) (os : List (List ℕ × Origin)) → output_named os (codes "v") ≡ made → (xs ys : List NamedRow) → Zip (RowOk s g d e (shows os)) xs ys → first_value xs ≡ first_value ys
+first_alike : (s : Schema) (g : Grants) (d e : List (List Row)) (os : List (List ℕ × Origin)) → output_named os (codes "v") ≡ made
+    → (xs ys : List NamedRow) → Zip (RowOk s g d e (shows os)) xs ys → first_value xs ≡ first_value ys
 first_alike s g d e os m [] [] h = refl
 first_alike s g d e os m [] (y ∷ ys) h = absurd h
 first_alike s g d e os m (x ∷ xs) [] h = absurd h

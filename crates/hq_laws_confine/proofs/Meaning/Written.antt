@@ -76,7 +76,10 @@ module _ (s : Schema) (tables : List Table) (d : List (List Row)) (base : Base s
     any_keyed _ _ r k x = cc
 
     has_keyed : (q u : SelectTree) (r : Renaming) → is_alike_select r q u ≡ true → (x : Scope) → has_rows (rows_of u Keys x) ≡ has_rows (rows_of u File x)
-    has_keyed (tree.rows distinct outs (tree.table schema name alias) joins condition keys limit offset) (tree.rows other_distinct other_outs (tree.table other_schema other_name other_alias) other_joins other_condition other_keys other_limit other_offset) r k x =
+    has_keyed (tree.rows distinct outs (tree.table schema name alias) joins condition keys limit offset)
+        (tree.rows other_distinct other_outs (tree.table other_schema other_name other_alias) other_joins other_condition other_keys
+        other_limit other_offset)
+        r k x =
         let within : Renaming = (alias, other_alias) ∷ r in
         let one : Bool = is_bare distinct joins keys limit offset in
         let two : Bool = is_bare other_distinct other_joins other_keys other_limit other_offset in
@@ -88,12 +91,19 @@ module _ (s : Schema) (tables : List Table) (d : List (List Row)) (base : Base s
         let each : (row : NamedRow) → kept other_condition Keys (with_alias x other_alias row) ≡ kept other_condition File (with_alias x other_alias row) =
         λ row. kept_keyed condition other_condition within last.1 (with_alias x other_alias row) in
         ap (λ u. has_rows (rows_of u Keys x)) is ∙ bare_rows Keys x other_schema other_name other_alias other_outs other_condition
-        ∙ any_alike (λ row. kept other_condition Keys (with_alias x other_alias row)) (λ row. kept other_condition File (with_alias x other_alias row)) each (rows_named tables (keyed s d) other_schema other_name)
+        ∙ any_alike (λ row. kept other_condition Keys (with_alias x other_alias row))
+        (λ row. kept other_condition File (with_alias x other_alias row)) each (rows_named tables (keyed s d) other_schema other_name)
         ∙ any_row (λ row. kept other_condition File (with_alias x other_alias row)) other_schema other_name
         ∙ sym (ap (λ u. has_rows (rows_of u File x)) is ∙ bare_rows File x other_schema other_name other_alias other_outs other_condition)
     has_keyed (tree.rows distinct outs from joins condition keys limit offset) (tree.rows other_distinct other_outs other_from other_joins other_condition other_keys other_limit other_offset) r k x =
-        let from_one = and_parts (is_bare distinct joins keys limit offset && is_bare other_distinct other_joins other_keys other_limit other_offset) (same_table from other_from) (and_parts (is_bare distinct joins keys limit offset && is_bare other_distinct other_joins other_keys other_limit other_offset && same_table from other_from) (are_alike_outs (beside r from other_from) outs other_outs)
-        (and_parts (is_bare distinct joins keys limit offset && is_bare other_distinct other_joins other_keys other_limit other_offset && same_table from other_from && are_alike_outs (beside r from other_from) outs other_outs) (is_alike_filter (beside r from other_from) condition other_condition) k).0).0 in
+        let from_one =
+        and_parts (is_bare distinct joins keys limit offset && is_bare other_distinct other_joins other_keys other_limit other_offset)
+        (same_table from other_from) (and_parts
+        (is_bare distinct joins keys limit offset && is_bare other_distinct other_joins other_keys other_limit other_offset
+        && same_table from other_from)
+        (are_alike_outs (beside r from other_from) outs other_outs)
+        (and_parts (is_bare distinct joins keys limit offset && is_bare other_distinct other_joins other_keys other_limit other_offset && same_table from other_from && are_alike_outs (beside r from other_from) outs other_outs) (is_alike_filter (beside r from other_from) condition other_condition) k).0).0
+        in
         absurd (let no = from_one.1 in cc)
     has_keyed _ _ r k x = cc
 
@@ -134,7 +144,8 @@ module _ (s : Schema) (tables : List Table) (d : List (List Row)) (base : Base s
     one_so [] h p k = cc
     one_so (own ∷ os) h p k =
         let parts = and_parts (is_so File start own) (list_all (is_so File start) os) h in
-        let go : (c : Bool) → is_written alias own p ≡ c → (c || is_one_of os alias p) ≡ true → is_so Keys x p ≡ true = elim [ true ↦ λ e f. written_so own p e ∙ parts.0 | false ↦ λ e f. one_so os parts.1 p f ] in
+        let go : (c : Bool) → is_written alias own p ≡ c → (c || is_one_of os alias p) ≡ true → is_so Keys x p ≡ true =
+        elim [ true ↦ λ e f. written_so own p e ∙ parts.0 | false ↦ λ e f. one_so os parts.1 p f ] in
         go (is_written alias own p) refl k
 
     -- where the condition is true of the row, each of its conjuncts is at the alias
@@ -145,7 +156,8 @@ module _ (s : Schema) (tables : List Table) (d : List (List Row)) (base : Base s
     found_so own [] f h = cc
     found_so own (p ∷ all) f h =
         let parts = and_parts (is_so Keys x p) (list_all (is_so Keys x) all) h in
-        let go : (c : Bool) → is_written alias own p ≡ c → (c || list_any (is_written alias own) all) ≡ true → is_so File start own ≡ true = elim [ true ↦ λ e g. sym (written_so own p e) ∙ parts.0 | false ↦ λ e g. found_so own all g parts.1 ] in
+        let go : (c : Bool) → is_written alias own p ≡ c → (c || list_any (is_written alias own) all) ≡ true → is_so File start own ≡ true =
+        elim [ true ↦ λ e g. sym (written_so own p e) ∙ parts.0 | false ↦ λ e g. found_so own all g parts.1 ] in
         go (is_written alias own p) refl f
 
     all_found : (all os : List PredTree) → stand_among all os alias ≡ true → list_all (is_so Keys x) all ≡ true → list_all (is_so File start) os ≡ true

@@ -132,14 +132,30 @@ module _ (tables : List Table) (m : MetaTree) (role : Role) (fit : fits tables m
   -- the column in the original
   own_column : (o : Source) (h : Held tables m role o) → (masks : List Mask) (c : ℕ) → HasColumn s o.entry.table c
       → under_name masks c (slice_get h.origin.columns c) (slice_get o.entry.column_names c)
-      ≡ Some (record { name = slice_index_or o.entry.column_names c []; ty = (column s o.entry.table c).ty; scalar = scalar_of (column s o.entry.table c); nullable = is_masked masks c || (column s o.entry.table c).nullable; col = c })
+      ≡ Some
+      (record {
+        name = slice_index_or o.entry.column_names c [];
+        ty = (column s o.entry.table c).ty;
+        scalar = scalar_of (column s o.entry.table c);
+        nullable = is_masked masks c
+            || (column s o.entry.table c).nullable;
+        col = c;
+      })
   own_column o h masks c has =
       ap₂ (under_name masks c) (ap (λ x. slice_get x.columns c) (sym h.table_is) ∙ column_there s o.entry.table c has) (name_there o h c has)
 
   -- the column in the copy, at a place where it stands
   there_column : (o : Source) → Held tables m role o → (u j c : ℕ) → slice_get o.permission.columns j ≡ Some c
       → under_name [] j (slice_get (copied_table role m s o).columns j) (slice_get (copied_entry role m s u o).column_names j)
-      ≡ Some (record { name = slice_index_or o.entry.column_names c []; ty = (column s o.entry.table c).ty; scalar = scalar_of (column s o.entry.table c); nullable = (column s o.entry.table c).nullable || has_mask o.permission c; col = j })
+      ≡ Some
+      (record {
+        name = slice_index_or o.entry.column_names c [];
+        ty = (column s o.entry.table c).ty;
+        scalar = scalar_of (column s o.entry.table c);
+        nullable = (column s o.entry.table c).nullable
+            || has_mask o.permission c;
+        col = j;
+      })
   there_column o h u j c e =
       ap₂ (under_name [] j)
       (got_front (map (copied_column s o.permission o.entry.table) o.permission.columns) (map extra_column (extras_of role m s o)) j (copied_column s o.permission o.entry.table c)
@@ -154,7 +170,16 @@ module _ (tables : List Table) (m : MetaTree) (role : Role) (fit : fits tables m
       ≡ option_map (column_over n o.entry.table) (under_name masks c (slice_get h.origin.columns c) (slice_get o.entry.column_names c))
   one_column o h u j c masks has e same =
       there_column o h u j c e
-      ∙ ap₂ (λ b i. Some (record { name = slice_index_or o.entry.column_names c []; ty = (column s o.entry.table c).ty; scalar = scalar_of (column s o.entry.table c); nullable = b; col = i })) (sym same) (sym (column_place o h j c e))
+      ∙ ap₂
+      (λ b i. Some
+      (record {
+        name = slice_index_or o.entry.column_names c [];
+        ty = (column s o.entry.table c).ty;
+        scalar = scalar_of (column s o.entry.table c);
+        nullable = b;
+        col = i;
+      }))
+      (sym same) (sym (column_place o h j c e))
       ∙ ap (option_map (column_over n o.entry.table)) (sym (own_column o h masks c has))
 
   columns_are : (o : Source) (h : Held tables m role o) → (u : ℕ)

@@ -236,14 +236,25 @@ module _ (n : Renumbering) where
         ap (λ l. record { shown = table_over x; first = first } ∷ l) (ap (λ c. placed_from (first + c) (map table_over xs)) (part_count_same x) ∙ placed_same (first + part_count x) xs)
 
     -- a type of the table
-    part_type_over : (scalars : List (List ℕ)) (p : PlacedTable) (ls : List Link) (q : Part) → part_type scalars (placed_over p) (map (link_over p.shown.table) ls) q ≡ type_over n (part_type scalars p ls q)
+    part_type_over : (scalars : List (List ℕ)) (p : PlacedTable) (ls : List Link) (q : Part)
+        → part_type scalars (placed_over p) (map (link_over p.shown.table) ls) q ≡ type_over n (part_type scalars p ls q)
     unfolding part_type
     part_type_over scalars p ls q =
         let t : ℕ = p.shown.table in
         let cs : List ShownColumn = p.shown.columns in
         let at : t ≡ type_table (part_origin q t) = sym (table_is t q) in
         let made : List FieldTree → List ArgTree → List (List ℕ) → List ℕ → TypeOrigin → TypeTree =
-        λ fields inputs values columns origin. record { name = p.shown.name ++ part_suffix q; kind = part_kind q; fields = fields; inputs = inputs; values = values; columns = columns; origin = origin } in
+        λ fields inputs values columns origin. record {
+          name = p.shown.name
+              ++ part_suffix q;
+          kind = part_kind q;
+          fields = fields;
+          inputs = inputs;
+          values = values;
+          columns = columns;
+          origin = origin;
+        }
+        in
         let fs : List FieldTree = part_fields scalars p.first (columns_over t cs) (map (link_over t) ls) q in
         let is : List ArgTree = part_inputs p.first (columns_over t cs) (map (link_over t) ls) q in
         let vs : List (List ℕ) = part_values (columns_over t cs) q in
@@ -349,7 +360,17 @@ module _ (n : Renumbering) where
     fixed_over ps fixed.TypeKind = refl
     fixed_over ps fixed.DirectiveLocation = refl
     fixed_over ps fixed.QueryRoot =
-        ap (λ fs. record { name = fixed_name fixed.QueryRoot; kind = fixed_kind fixed.QueryRoot; fields = fs; inputs = []; values = fixed_values fixed.QueryRoot; columns = []; origin = fixed_origin fixed.QueryRoot }) (query_fields_over ps)
+        ap
+        (λ fs. record {
+          name = fixed_name fixed.QueryRoot;
+          kind = fixed_kind fixed.QueryRoot;
+          fields = fs;
+          inputs = [];
+          values = fixed_values fixed.QueryRoot;
+          columns = [];
+          origin = fixed_origin fixed.QueryRoot;
+        })
+        (query_fields_over ps)
 
     pub fixed_types_over : (ps : List PlacedTable) → fixed_types (map placed_over ps) ≡ map (type_over n) (fixed_types ps)
     fixed_types_over ps = each_fixed all_fixed

@@ -115,6 +115,8 @@ module _ (tables : List Table) (m : MetaTree) (session : Session) (d : List (Lis
     types = λ t c h. by_source role m (λ u. a.column u c ≡ true → (column z (n.table u) (n.column u c)).ty ≡ (column s u c).ty) (λ o is g. type_is o is c g) t (column_seen t c h) h;
     columns = λ t c e p q same. (one_to_one role m s).columns t c e (column_allowed t c p) (column_allowed t e q) same;
     leads = λ t r q seen h far.
-        by_source role m (λ u. a.rel u r ≡ Some q → ((rel s u r).remote ≡ q.remote) × ((rel z (n.table u) (n.relationship u r)).remote ≡ n.table q.remote)) (λ o is g. leads_is o is r q g far) t seen h;
+        by_source role m
+        (λ u. a.rel u r ≡ Some q → ((rel s u r).remote ≡ q.remote) × ((rel z (n.table u) (n.relationship u r)).remote ≡ n.table q.remote))
+        (λ o is g. leads_is o is r q g far) t seen h;
     keys = λ t seen keyed. (is_copy tables m session d fit none).keys t seen (keyed_allowed t (table s t).key keyed);
   }

@@ -72,7 +72,8 @@ module _ (R : SchemaTree) (tables : List Table) (m : MetaTree) (session : Sessio
     (fields : (q : SchemaTree) (d : DocumentTree) → first_field_fault (blank q) d ≡ first_field_fault q d)
     (variables : (q : SchemaTree) (d : DocumentTree) (op : ℕ) (values : Option JsonTree) → variables_due (blank q) d op values ≡ variables_due q d op values)
     (roots : (vars : List VarTree) (fs : CollectedTrees)
-    → root_due vars (schema_over n R) (schema_of ct cm) (length ct) fs ≡ mapped (λ asks. fields_over asks (schema_of tables m) n (length tables)) (root_due vars R (schema_of tables m) (length tables) fs))
+    → root_due vars (schema_over n R) (schema_of ct cm) (length ct) fs
+    ≡ mapped (λ asks. fields_over asks (schema_of tables m) n (length tables)) (root_due vars R (schema_of tables m) (length tables) fs))
     (binds : (ts : List ℕ) → (bs : List BoundTree) × (bounds_due (role_of session.role) m (schema_of tables m) session.vars ts ≡ Ok bs))
     (reader_bound : (ts : List ℕ) → (bs : List BoundTree) × (bounds_due (role_of reader_session.role) cm (schema_of ct cm) reader_session.vars ts ≡ Ok bs)) where
   abbrev s : Schema
@@ -114,7 +115,8 @@ module _ (R : SchemaTree) (tables : List Table) (m : MetaTree) (session : Sessio
   built_alike d op vars =
       same_step F G (λ o. collected_due d vars o >>= λ fs. root_due vars R s (length tables) fs >>= bound_here)
       (λ o. collected_due d vars o >>= λ fs. root_due vars (schema_over n R) z (length ct) fs >>= bound_there) (operation_of (operation_at d op)) (operation_of (operation_at d op)) refl
-      (λ o. same_step F G (λ fs. root_due vars R s (length tables) fs >>= bound_here) (λ fs. root_due vars (schema_over n R) z (length ct) fs >>= bound_there) (collected_due d vars o) (collected_due d vars o) refl
+      (λ o. same_step F G (λ fs. root_due vars R s (length tables) fs >>= bound_here)
+      (λ fs. root_due vars (schema_over n R) z (length ct) fs >>= bound_there) (collected_due d vars o) (collected_due d vars o) refl
       (λ fs. asked_alike (root_due vars R s (length tables) fs) (root_due vars (schema_over n R) z (length ct) fs) (roots vars fs)))
 
   -- ---- validation and variables
@@ -136,7 +138,8 @@ module _ (R : SchemaTree) (tables : List Table) (m : MetaTree) (session : Sessio
   operation_alike json d =
       same_step F G (λ op. values_due R json d op >>= ask_due R tables m session d op) (λ op. values_due (schema_over n R) json d op >>= ask_due (schema_over n R) ct cm reader_session d op)
       (operation_due json d) (operation_due json d) refl
-      (λ op. same_step F G (ask_due R tables m session d op) (ask_due (schema_over n R) ct cm reader_session d op) (values_due R json d op) (values_due (schema_over n R) json d op) (values_same json d op)
+      (λ op. same_step F G (ask_due R tables m session d op) (ask_due (schema_over n R) ct cm reader_session d op) (values_due R json d op)
+      (values_due (schema_over n R) json d op) (values_same json d op)
       (λ vars. refused_step F G of_coerce (build_due d op vars R tables m session) (build_due d op vars (schema_over n R) ct cm reader_session) (built_alike d op vars)))
 
   pub made_alike : (body : List ℕ) → mapped G (request_by (schema_over n R) ct cm reader_session body) ≡ mapped F (request_by R tables m session body)
@@ -144,9 +147,11 @@ module _ (R : SchemaTree) (tables : List Table) (m : MetaTree) (session : Sessio
   made_alike body =
       let whole : SchemaTree → List Table → MetaTree → Session → JsonTree → DocumentTree → Result AskTree RequestRefusal =
       λ q ts k who json d. valid_due q d >>= operation_ask q ts k who json in
-      same_step F G (λ json. query_due json >>= λ text. document_due text >>= whole R tables m session json) (λ json. query_due json >>= λ text. document_due text >>= whole (schema_over n R) ct cm reader_session json)
+      same_step F G (λ json. query_due json >>= λ text. document_due text >>= whole R tables m session json)
+      (λ json. query_due json >>= λ text. document_due text >>= whole (schema_over n R) ct cm reader_session json)
       (json_due body) (json_due body) refl
-      (λ json. same_step F G (λ text. document_due text >>= whole R tables m session json) (λ text. document_due text >>= whole (schema_over n R) ct cm reader_session json) (query_due json) (query_due json) refl
+      (λ json. same_step F G (λ text. document_due text >>= whole R tables m session json)
+      (λ text. document_due text >>= whole (schema_over n R) ct cm reader_session json) (query_due json) (query_due json) refl
       (λ text. same_step F G (whole R tables m session json) (whole (schema_over n R) ct cm reader_session json) (document_due text) (document_due text) refl
       (λ d. same_step F G (operation_ask R tables m session json) (operation_ask (schema_over n R) ct cm reader_session json) (valid_due R d) (valid_due (schema_over n R) d) (valid_same d) (operation_alike json))))
 
@@ -159,7 +164,8 @@ pub renumbered : (tables : List Table) (m : MetaTree) (session : Session) (d : L
     → Each (TypeFits (role_schema tables m (role_of session.role)).types (access_of m (role_of session.role))) (role_schema tables m (role_of session.role)).types
     → SchemaRenumbered tables m session (session_view tables m session d) c
     → ((z : Schema) (vars : List VarTree) (root there : ℕ) (fs : CollectedTrees)
-    → FieldsRenumbered (schema_of tables m) z (numbers (role_of session.role) m (schema_of tables m)) (access_of m (role_of session.role)) (role_schema tables m (role_of session.role)) vars root there fs)
+    → FieldsRenumbered (schema_of tables m) z (numbers (role_of session.role) m (schema_of tables m)) (access_of m (role_of session.role))
+    (role_schema tables m (role_of session.role)) vars root there fs)
     → RequestsRenumbered tables m session d c body
 renumbered tables m session d c body same documents fields variables leads schema asks fit done =
     let role : Role = role_of session.role in
@@ -169,7 +175,8 @@ renumbered tables m session d c body same documents fields variables leads schem
     let v : View = session_view tables m session d in
     let made = given _ (copy_of tables m session v) c done in
     let none = causes_absent role m s session.vars (seen_in v) made.0 in
-    let tables_alike : TablesAlike s (schema_of c.tables c.meta) n (access_of m role) = subst (λ (k : Copied). TablesAlike s (schema_of k.tables k.meta) n (access_of m role)) made.1 (alike tables m session d fit none) in
+    let tables_alike : TablesAlike s (schema_of c.tables c.meta) n (access_of m role) =
+    subst (λ (k : Copied). TablesAlike s (schema_of k.tables k.meta) n (access_of m role)) made.1 (alike tables m session d fit none) in
     let reads : (ts : List ℕ) → (bs : List BoundTree) × (bounds_due (Named reader) c.meta (schema_of c.tables c.meta) reader_session.vars ts ≡ Ok bs) =
     subst (λ (k : Copied). (ts : List ℕ) → (bs : List BoundTree) × (bounds_due (Named reader) k.meta (schema_of k.tables k.meta) reader_session.vars ts ≡ Ok bs)) made.1
     (λ ts. all_bind (Named reader) (copy_of tables m session v).meta (schema_of (copy_of tables m session v).tables (copy_of tables m session v).meta) reader_session.vars

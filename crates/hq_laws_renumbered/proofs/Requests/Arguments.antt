@@ -74,7 +74,9 @@ module _ (s z : Schema) (n : Renumbering) (a : Access) (r : SchemaTree) (of_role
     abbrev list_over : ListArguments → ListArguments
     list_over x = arguments_over x s n u
 
-    sorts_read : SortsRead s z n a r of_role alike vars u (order_by_due d (n.table u) (option_map (given_over n v) (given_named c args xs (codes "order_by")))) (order_by_due c u (given_named c args xs (codes "order_by")))
+    sorts_read : SortsRead s z n a r of_role alike vars u
+        (order_by_due d (n.table u) (option_map (given_over n v) (given_named c args xs (codes "order_by"))))
+        (order_by_due c u (given_named c args xs (codes "order_by")))
     sorts_read = order_by_read s z n a r of_role alike vars u v (given_named c args xs (codes "order_by")) (here (codes "order_by"))
 
     offset_over : (b : BexpTree) (ks : List SortKey) (limit offset : Option ℕ) → Each (PlainPermitted s z n a r of_role alike vars u) ks
@@ -83,14 +85,16 @@ module _ (s z : Schema) (n : Renumbering) (a : Access) (r : SchemaTree) (of_role
         then_over (map (n.column u)) list_over (λ distinct. Ok (record { wanted = b; sorts = ks; distinct = distinct; limit = limit; offset = offset }))
         (λ distinct. Ok (record { wanted = condition_over b s n u; sorts = sorts_over ks s n u; distinct = distinct; limit = limit; offset = offset }))
         (distinct_due c u ks (given_named c args xs (codes "distinct_on"))) (distinct_due d (n.table u) (sorts_over ks s n u) (given_named d (map (arg_over n v) args) xs (codes "distinct_on")))
-        (ap (distinct_due d (n.table u) (sorts_over ks s n u)) (of_name v args xs (codes "distinct_on")) ∙ distinct_over s z n a r of_role alike vars u v (given_named c args xs (codes "distinct_on")) (here (codes "distinct_on")) ks p)
+        (ap (distinct_due d (n.table u) (sorts_over ks s n u)) (of_name v args xs (codes "distinct_on"))
+        ∙ distinct_over s z n a r of_role alike vars u v (given_named c args xs (codes "distinct_on")) (here (codes "distinct_on")) ks p)
         (λ cs e. refl)
 
     limit_over : (b : BexpTree) (ks : List SortKey) (limit : Option ℕ) → Each (PlainPermitted s z n a r of_role alike vars u) ks
         → after_limit d (map (arg_over n v) args) xs (n.table u) (condition_over b s n u) (sorts_over ks s n u) limit ≡ mapped list_over (after_limit c args xs u b ks limit)
     limit_over b ks limit p =
         then_same list_over (after_offset c args xs u b ks limit) (after_offset d (map (arg_over n v) args) xs (n.table u) (condition_over b s n u) (sorts_over ks s n u) limit)
-        (rows_due (given_named c args xs (codes "offset"))) (rows_due (given_named d (map (arg_over n v) args) xs (codes "offset"))) (rows_same (codes "offset")) (λ offset e. offset_over b ks limit offset p)
+        (rows_due (given_named c args xs (codes "offset"))) (rows_due (given_named d (map (arg_over n v) args) xs (codes "offset")))
+        (rows_same (codes "offset")) (λ offset e. offset_over b ks limit offset p)
 
     after_sorts_over : (b : BexpTree) (ks : List SortKey) → Each (PlainPermitted s z n a r of_role alike vars u) ks
         → after_sorts d (map (arg_over n v) args) xs (n.table u) (condition_over b s n u) (sorts_over ks s n u) ≡ mapped list_over (after_sorts c args xs u b ks)
@@ -108,7 +112,9 @@ module _ (s z : Schema) (n : Renumbering) (a : Access) (r : SchemaTree) (of_role
     list_due_over =
         then_over (λ b. condition_over b s n u) list_over (after_where c args xs u) (after_where d (map (arg_over n v) args) xs (n.table u))
         (where_due c u (given_named c args xs (codes "where"))) (where_due d (n.table u) (given_named d (map (arg_over n v) args) xs (codes "where")))
-        (ap (where_due d (n.table u)) (of_name v args xs (codes "where")) ∙ where_over s z n a r of_role alike vars u v (given_named c args xs (codes "where")) (here (codes "where"))) (λ b e. after_where_over b)
+        (ap (where_due d (n.table u)) (of_name v args xs (codes "where"))
+        ∙ where_over s z n a r of_role alike vars u v (given_named c args xs (codes "where")) (here (codes "where")))
+        (λ b e. after_where_over b)
 
   -- ---- count
 
@@ -125,7 +131,8 @@ module _ (s z : Schema) (n : Renumbering) (a : Access) (r : SchemaTree) (of_role
   pub count_due_over : (u v : ℕ) (args : List ArgTree) (xs : List ArgumentTree) → Each (ArgFits types (count_target u)) args
       → count_due d (map (arg_over n v) args) xs (n.table u) ≡ mapped (count_over n u) (count_due c args xs u)
   count_due_over u v args xs fit =
-      let here : (g : Given) → given_named c args xs (codes "columns") ≡ Some g → ArgFits types (count_target u) g.arg = λ g is. given_each (ArgFits types (count_target u)) c args xs (codes "columns") g fit is in
+      let here : (g : Given) → given_named c args xs (codes "columns") ≡ Some g → ArgFits types (count_target u) g.arg =
+      λ g is. given_each (ArgFits types (count_target u)) c args xs (codes "columns") g fit is in
       let flag : flag_due (given_named d (map (arg_over n v) args) xs (codes "distinct")) ≡ flag_due (given_named c args xs (codes "distinct")) =
       ap flag_due (of_name v args xs (codes "distinct")) ∙ flag_over n v (given_named c args xs (codes "distinct")) in
       then_over (option_map (n.column u)) (count_over n u) (λ col. flag_due (given_named c args xs (codes "distinct")) >>= λ distinct. counting c u col distinct)

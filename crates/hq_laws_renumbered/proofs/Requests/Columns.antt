@@ -126,7 +126,8 @@ module _ (s z : Schema) (n : Renumbering) (a : Access) (r : SchemaTree) (of_role
 
     among_over : (cs : List ℕ) → Each P cs → (through : List ℕ) (col : ℕ) (desc nulls_first : Bool)
         → PlainPermitted s z n a r of_role alike vars t (record { through = through; column = col; desc = desc; nulls_first = nulls_first })
-        → is_among (map f cs) (sorted (record { through = through; column = col; desc = desc; nulls_first = nulls_first })) ≡ is_among cs (record { through = through; column = col; desc = desc; nulls_first = nulls_first })
+        → is_among (map f cs) (sorted (record { through = through; column = col; desc = desc; nulls_first = nulls_first }))
+        ≡ is_among cs (record { through = through; column = col; desc = desc; nulls_first = nulls_first })
     among_over cs h [] col desc nulls_first p = any_same P f apart col p cs h
     among_over cs h (q ∷ qs) col desc nulls_first p =
         ap (λ b. b && list_any (λ e. e == n.column (path_end (q ∷ qs) s t) col) (map f cs)) (is_long (n.relationship t q) (path_over qs s n (rel s t q).remote))
@@ -204,7 +205,8 @@ module _ (s z : Schema) (n : Renumbering) (a : Access) (r : SchemaTree) (of_role
       let there = by_distinct d g.value (base g.arg.ty) (arg_origin_over n v g.arg.origin) in
       let permitted : (cs : List ℕ) → read ≡ Ok cs → Permitted u cs = by_distinct_permitted u g.value g.arg.ty g.arg.origin fit in
       then_over (map (n.column u)) (map (n.column u)) (matched ks) (matched (sorts_over ks s n u)) (and_then (ordered c u) read) (and_then (ordered d (n.table u)) there)
-      (then_over (map (n.column u)) (map (n.column u)) (ordered c u) (ordered d (n.table u)) read there (by_distinct_over u v g.value g.arg.ty g.arg.origin fit) (λ cs e. ordered_over u cs (permitted cs e)))
+      (then_over (map (n.column u)) (map (n.column u)) (ordered c u) (ordered d (n.table u)) read there
+      (by_distinct_over u v g.value g.arg.ty g.arg.origin fit) (λ cs e. ordered_over u cs (permitted cs e)))
       (λ ds e. let one = then_ok (ordered c u) read ds e in matched_over u ds (ordered_permitted u one.0 ds (permitted one.0 one.1) one.2) ks q)
 
   -- ---- the argument columns

@@ -66,10 +66,13 @@ module _ (s z : Schema) (n : Renumbering) (a : Access) (r : SchemaTree) (of_role
   module _ (t k : ℕ) (ty : Ty) where
     tested_over : (o : Operator) (j : JsonTree) (m : Arity) → tested_due (n.column t k) ty o j m ≡ mapped (over t) (tested_due k ty o j m)
     tested_over o j Nothing =
-        mapped_same (over t) (λ holds. test k o.test (operands.List []) (cond holds o.negated (not o.negated))) (λ holds. test (n.column t k) o.test (operands.List []) (cond holds o.negated (not o.negated)))
+        mapped_same (over t) (λ holds. test k o.test (operands.List []) (cond holds o.negated (not o.negated)))
+        (λ holds. test (n.column t k) o.test (operands.List []) (cond holds o.negated (not o.negated)))
         (λ holds. refl) (truth_due j) (truth_due j) refl
     tested_over o j One =
-        mapped_same (over t) (λ v. test k o.test (operands.List (v ∷ [])) o.negated) (λ v. test (n.column t k) o.test (operands.List (v ∷ [])) o.negated) (λ v. refl) (operand_due o.test ty j) (operand_due o.test ty j) refl
+        mapped_same (over t) (λ v. test k o.test (operands.List (v ∷ [])) o.negated)
+        (λ v. test (n.column t k) o.test (operands.List (v ∷ [])) o.negated) (λ v. refl) (operand_due o.test ty j)
+        (operand_due o.test ty j) refl
     tested_over o j Many =
         mapped_same (over t) (λ vs. test k o.test (operands.List vs) o.negated) (λ vs. test (n.column t k) o.test (operands.List vs) o.negated) (λ vs. refl) (each (operand_due o.test ty) (items_in j))
         (each (operand_due o.test ty) (items_in j)) refl
@@ -77,7 +80,9 @@ module _ (s z : Schema) (n : Renumbering) (a : Access) (r : SchemaTree) (of_role
     operator_over : (o : Operator) (j : JsonTree) → operator_due (n.column t k) ty o j ≡ mapped (over t) (operator_due k ty o j)
     operator_over o j = go (applies o.test ty)
       where
-        go : (b : Bool) → cond b (tested_due (n.column t k) ty o j (arity o.test)) (Err (Rule ValuesOfCorrectType)) ≡ mapped (over t) (cond b (tested_due k ty o j (arity o.test)) (Err (Rule ValuesOfCorrectType)))
+        go : (b : Bool)
+            → cond b (tested_due (n.column t k) ty o j (arity o.test)) (Err (Rule ValuesOfCorrectType))
+            ≡ mapped (over t) (cond b (tested_due k ty o j (arity o.test)) (Err (Rule ValuesOfCorrectType)))
         go true = tested_over o j (arity o.test)
         go false = refl
 
@@ -89,7 +94,9 @@ module _ (s z : Schema) (n : Renumbering) (a : Access) (r : SchemaTree) (of_role
 
     named_same : (p : ℕ) (name : List ℕ) → operator_named d p name ≡ operator_named c p name
     named_same p name =
-        ap (λ o. option_and_then (λ (x : ArgTree). operator_of x.origin) (option_and_then (λ (q : TypeTree). arg_in q.inputs name) o)) (slice_get-map (type_over n) r.types p) ∙ go (slice_get r.types p)
+        ap (λ o. option_and_then (λ (x : ArgTree). operator_of x.origin) (option_and_then (λ (q : TypeTree). arg_in q.inputs name) o))
+        (slice_get-map (type_over n) r.types p)
+        ∙ go (slice_get r.types p)
       where
         one : (u : ℕ) (o : Option ArgTree) → option_and_then (λ (x : ArgTree). operator_of x.origin) (option_map (arg_over n u) o) ≡ option_and_then (λ (x : ArgTree). operator_of x.origin) o
         one u None = refl
@@ -116,7 +123,8 @@ module _ (s z : Schema) (n : Renumbering) (a : Access) (r : SchemaTree) (of_role
     comparisons_over p (str x) = refl
     comparisons_over p (arr js) = refl
     comparisons_over p (obj ms) =
-        mapped_over (map (over t)) (over t) conjunction conjunction (conjunction_over t) (each (comparisons.named_due c p k ty) (member_list ms)) (each (comparisons.named_due d p (n.column t k) ty) (member_list ms))
+        mapped_over (map (over t)) (over t) conjunction conjunction (conjunction_over t)
+        (each (comparisons.named_due c p k ty) (member_list ms)) (each (comparisons.named_due d p (n.column t k) ty) (member_list ms))
         (each_over (over t) (comparisons.named_due c p k ty) (comparisons.named_due d p (n.column t k) ty) (named_over p) (member_list ms))
 
   -- ---- one member, where its value is read as a filter or a list of filters
@@ -138,9 +146,11 @@ module _ (s z : Schema) (n : Renumbering) (a : Access) (r : SchemaTree) (of_role
         → by_origin (λ q u. filter_due j d q u) (λ q. filters_due j d q (n.table t)) j d (n.table t) (base ty) (arg_origin_over n t o)
         ≡ mapped (over t) (by_origin (λ q u. filter_due j c q u) (λ q. filters_due j c q t) j c t (base ty) o)
     origin_over t ty stands.And seen at =
-        mapped_over (map (over t)) (over t) (λ bs. and_of (bexps_of bs)) (λ bs. and_of (bexps_of bs)) (λ bs. ap and_of (bexps_over t bs)) (filters_due j c (base ty) t) (filters_due j d (base ty) (n.table t)) (list_over (base ty) t at)
+        mapped_over (map (over t)) (over t) (λ bs. and_of (bexps_of bs)) (λ bs. and_of (bexps_of bs)) (λ bs. ap and_of (bexps_over t bs))
+        (filters_due j c (base ty) t) (filters_due j d (base ty) (n.table t)) (list_over (base ty) t at)
     origin_over t ty stands.Or seen at =
-        mapped_over (map (over t)) (over t) (λ bs. or_of (bexps_of bs)) (λ bs. or_of (bexps_of bs)) (λ bs. ap or_of (bexps_over t bs)) (filters_due j c (base ty) t) (filters_due j d (base ty) (n.table t)) (list_over (base ty) t at)
+        mapped_over (map (over t)) (over t) (λ bs. or_of (bexps_of bs)) (λ bs. or_of (bexps_of bs)) (λ bs. ap or_of (bexps_over t bs))
+        (filters_due j c (base ty) t) (filters_due j d (base ty) (n.table t)) (list_over (base ty) t at)
     origin_over t ty stands.Not seen at =
         mapped_over (over t) (over t) not_of not_of (λ b. refl) (filter_due j c (base ty) t) (filter_due j d (base ty) (n.table t)) (filter_over (base ty) t at)
     origin_over t ty (stands.Column k) seen at = go (a.column t k) refl at
@@ -181,12 +191,15 @@ module _ (s z : Schema) (n : Renumbering) (a : Access) (r : SchemaTree) (of_role
     list_over (str x) p t at = refl
     list_over (arr js) p t at = elements_over js p t at
     list_over (obj ms) p t at =
-        mapped_over (map (over t)) (map (over t)) (λ bs. conjunction bs ∷ []) (λ bs. conjunction bs ∷ []) (λ bs. ap (λ b. b ∷ []) (conjunction_over t bs)) (members_due ms c p t) (members_due ms d p (n.table t)) (members_over ms p t at)
+        mapped_over (map (over t)) (map (over t)) (λ bs. conjunction bs ∷ []) (λ bs. conjunction bs ∷ [])
+        (λ bs. ap (λ b. b ∷ []) (conjunction_over t bs)) (members_due ms c p t) (members_due ms d p (n.table t)) (members_over ms p t at)
 
     elements_over : (js : ElementTrees) (p t : ℕ) → At types p (type.Filter t) → elements_due js d p (n.table t) ≡ mapped (map (over t)) (elements_due js c p t)
     elements_over no_element p t at = refl
     elements_over (element j js) p t at =
-        then_over (over t) (map (over t)) (λ b. mapped (λ bs. b ∷ bs) (elements_due js c p t)) (λ b. mapped (λ bs. b ∷ bs) (elements_due js d p (n.table t))) (filter_due j c p t) (filter_due j d p (n.table t)) (filter_over j p t at)
+        then_over (over t) (map (over t)) (λ b. mapped (λ bs. b ∷ bs) (elements_due js c p t))
+        (λ b. mapped (λ bs. b ∷ bs) (elements_due js d p (n.table t))) (filter_due j c p t) (filter_due j d p (n.table t))
+        (filter_over j p t at)
         (λ b e. mapped_over (map (over t)) (map (over t)) (λ bs. b ∷ bs) (λ bs. over t b ∷ bs) (λ bs. refl) (elements_due js c p t) (elements_due js d p (n.table t)) (elements_over js p t at))
 
     members_over : (ms : MemberTrees) (p t : ℕ) → At types p (type.Filter t) → members_due ms d p (n.table t) ≡ mapped (map (over t)) (members_due ms c p t)

@@ -42,7 +42,9 @@ module _ (n : Renumbering) (r : SchemaTree) where
   object_over : (place : ℕ) → object_at (schema_over n r) place ≡ object_at r place
   object_over place = ap (option_and_then (λ (d : TypeTree). cond (is_object d.kind) (Some place) None)) (slice_get-map (type_over n) r.types place) ∙ go (slice_get r.types place)
     where
-      go : (o : Option TypeTree) → option_and_then (λ (d : TypeTree). cond (is_object d.kind) (Some place) None) (option_map (type_over n) o) ≡ option_and_then (λ (d : TypeTree). cond (is_object d.kind) (Some place) None) o
+      go : (o : Option TypeTree)
+          → option_and_then (λ (d : TypeTree). cond (is_object d.kind) (Some place) None) (option_map (type_over n) o)
+          ≡ option_and_then (λ (d : TypeTree). cond (is_object d.kind) (Some place) None) o
       go None = refl
       go (Some d) = refl
 
@@ -51,7 +53,8 @@ module _ (n : Renumbering) (r : SchemaTree) where
 
   -- ---- inputs and values
 
-  pub input_over : (place : ℕ) (o : TypeOrigin) → At r.types place o → (name : List ℕ) → input_field_of (schema_over n r) place name ≡ option_map (arg_over n (type_table o)) (input_field_of r place name)
+  pub input_over : (place : ℕ) (o : TypeOrigin) → At r.types place o → (name : List ℕ)
+      → input_field_of (schema_over n r) place name ≡ option_map (arg_over n (type_table o)) (input_field_of r place name)
   input_over place o at name = ap (option_and_then (λ (d : TypeTree). arg_in d.inputs name)) (slice_get-map (type_over n) r.types place) ∙ go (slice_get r.types place) at
     where
       go : (x : Option TypeTree) → option_map (λ (d : TypeTree). d.origin) x ≡ Some o
@@ -63,7 +66,9 @@ module _ (n : Renumbering) (r : SchemaTree) where
 
   pub column_over : (place t : ℕ) → At r.types place (type.Columns t) → (name : List ℕ) → enum_column_of (schema_over n r) place name ≡ option_map (n.column t) (enum_column_of r place name)
   column_over place t at name =
-      ap (option_and_then (λ (d : TypeTree). option_and_then (slice_get d.columns) (position (λ v. bytes_eq v name) d.values))) (slice_get-map (type_over n) r.types place) ∙ go (slice_get r.types place) at
+      ap (option_and_then (λ (d : TypeTree). option_and_then (slice_get d.columns) (position (λ v. bytes_eq v name) d.values)))
+      (slice_get-map (type_over n) r.types place)
+      ∙ go (slice_get r.types place) at
     where
       value : (d : TypeTree) (u : ℕ) (o : Option ℕ) → option_and_then (slice_get (map (n.column u) d.columns)) o ≡ option_map (n.column u) (option_and_then (slice_get d.columns) o)
       value d u None = refl
@@ -84,7 +89,8 @@ module _ (n : Renumbering) (r : SchemaTree) where
   own_field_over place o at name = ap (option_and_then (λ (d : TypeTree). field_in d.fields name)) (slice_get-map (type_over n) r.types place) ∙ go (slice_get r.types place) at
     where
       go : (x : Option TypeTree) → option_map (λ (d : TypeTree). d.origin) x ≡ Some o
-          → option_and_then (λ (d : TypeTree). field_in d.fields name) (option_map (type_over n) x) ≡ option_map (field_over n (type_table o)) (option_and_then (λ (d : TypeTree). field_in d.fields name) x)
+          → option_and_then (λ (d : TypeTree). field_in d.fields name) (option_map (type_over n) x)
+          ≡ option_map (field_over n (type_table o)) (option_and_then (λ (d : TypeTree). field_in d.fields name) x)
       go None e = refl
       go (Some d) e =
           let same : d.origin ≡ o = cc in
@@ -92,7 +98,10 @@ module _ (n : Renumbering) (r : SchemaTree) where
 
   module _ (s : Schema) (a : Access) (of_role : IsOfRole s a r) where
     beside_over : (t place : ℕ) (name : List ℕ) → option_map (field_over n t) (meta_field r place name) ≡ meta_field r place name
-    beside_over t place name = ap (option_map (field_over n t)) (beside_is s a r of_role place name) ∙ go (bytes_eq (codes "__typename") name) (place == r.query) (bytes_eq (codes "__schema") name) (bytes_eq (codes "__type") name) ∙ sym (beside_is s a r of_role place name)
+    beside_over t place name =
+        ap (option_map (field_over n t)) (beside_is s a r of_role place name)
+        ∙ go (bytes_eq (codes "__typename") name) (place == r.query) (bytes_eq (codes "__schema") name) (bytes_eq (codes "__type") name)
+        ∙ sym (beside_is s a r of_role place name)
       where
         go : (b at_root c d : Bool) → option_map (field_over n t) (cond b (Some type_name_field) (cond at_root (cond c (Some schema_field) (cond d (Some type_field) None)) None))
             ≡ cond b (Some type_name_field) (cond at_root (cond c (Some schema_field) (cond d (Some type_field) None)) None)
@@ -102,7 +111,8 @@ module _ (n : Renumbering) (r : SchemaTree) where
         go false true false true = refl
         go false true false false = refl
 
-    pub field_found_over : (place : ℕ) (o : TypeOrigin) → At r.types place o → (name : List ℕ) → known_field (schema_over n r) (Some place) name ≡ option_map (field_over n (type_table o)) (known_field r (Some place) name)
+    pub field_found_over : (place : ℕ) (o : TypeOrigin) → At r.types place o → (name : List ℕ)
+        → known_field (schema_over n r) (Some place) name ≡ option_map (field_over n (type_table o)) (known_field r (Some place) name)
     field_found_over place o at name =
         ap (λ x. option_or x (meta_field r place name)) (own_field_over place o at name)
         ∙ ap (option_or (option_map (field_over n (type_table o)) (field_of r place name))) (sym (beside_over (type_table o) place name))
@@ -149,7 +159,9 @@ module _ (s : Schema) (a : Access) (r : SchemaTree) (of_role : IsOfRole s a r) w
       go (bytes_eq (codes "__typename") name) (place == r.query) refl (bytes_eq (codes "__schema") name) (bytes_eq (codes "__type") name)
       (sym (beside_is s a r of_role place name) ∙ e)
     where
-      go : (b at_root : Bool) → (place == r.query) ≡ at_root → (c d : Bool) → cond b (Some type_name_field) (cond at_root (cond c (Some schema_field) (cond d (Some type_field) None)) None) ≡ Some f → Found place o f
+      go : (b at_root : Bool) → (place == r.query) ≡ at_root → (c d : Bool)
+          → cond b (Some type_name_field) (cond at_root (cond c (Some schema_field) (cond d (Some type_field) None)) None) ≡ Some f
+          → Found place o f
       go true at_root root c d e = let same : type_name_field ≡ f = cc in of_type_name (sym same)
       go false false root c d e = cc
       go false true root true d e = let same : schema_field ≡ f = cc in of_schema (eqb-true place r.query root) (sym same)

@@ -33,10 +33,14 @@ module _ (n : Renumbering) (vars : List VarTree) (r q : SchemaTree) (s z : Schem
       go (Some j) = refl
 
   -- an argument of this name
-  pub named_given : (args : List ArgTree) (xs : List ArgumentTree) (name : List ℕ) → given_named (context vars q z) (map (arg_over n t) args) xs name ≡ option_map (given_over n t) (given_named (context vars r s) args xs name)
+  pub named_given : (args : List ArgTree) (xs : List ArgumentTree) (name : List ℕ)
+      → given_named (context vars q z) (map (arg_over n t) args) xs name
+      ≡ option_map (given_over n t) (given_named (context vars r s) args xs name)
   named_given args xs name = go (argument_named xs name)
     where
-      one : (x : ArgumentTree) (o : Option ArgTree) → option_and_then (λ a. given (context vars q z) a x) (option_map (arg_over n t) o) ≡ option_map (given_over n t) (option_and_then (λ a. given (context vars r s) a x) o)
+      one : (x : ArgumentTree) (o : Option ArgTree)
+          → option_and_then (λ a. given (context vars q z) a x) (option_map (arg_over n t) o)
+          ≡ option_map (given_over n t) (option_and_then (λ a. given (context vars r s) a x) o)
       one x None = refl
       one x (Some a) = one_given a x
 

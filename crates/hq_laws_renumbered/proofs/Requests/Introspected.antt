@@ -56,7 +56,8 @@ module _ (s z : Schema) (n : Renumbering) (a : Access) (r : SchemaTree) (of_role
     -- what follows a field with its arguments
     abbrev Next : FieldTree → FieldTree → Type 0
     Next f g =
-        and_then (λ x. look_of h (λ k. looks_due d (leads_to k) u below) (g, x)) (arguments_due d u g h) ≡ mapped (λ x. x) (and_then (λ x. look_of h (λ k. looks_due c (leads_to k) t below) (f, x)) (arguments_due c t f h))
+        and_then (λ x. look_of h (λ k. looks_due d (leads_to k) u below) (g, x)) (arguments_due d u g h)
+        ≡ mapped (λ x. x) (and_then (λ x. look_of h (λ k. looks_due c (leads_to k) t below) (f, x)) (arguments_due c t f h))
 
     own_look : (f : FieldTree) (v w : ℕ) (o : FieldOrigin) → Reaches r.types f.ty (introspection_target o) → LeadsToPlain r.types f.ty
         → Next (record { name = f.name; args = f.args; ty = f.ty; origin = o }) (record { name = f.name; args = map (arg_over n v) f.args; ty = f.ty; origin = field_origin_over n w o })
@@ -64,7 +65,8 @@ module _ (s z : Schema) (n : Renumbering) (a : Access) (r : SchemaTree) (of_role
         argued_by (λ x. x) h.at (λ x. x) (introspection_due c f.args h.args) (introspection_due d (map (arg_over n v) f.args) h.args)
         (λ x. mapped (look h.name None (deprecated_of x)) (looks_due c (base f.ty) t below)) (λ x. mapped (look h.name None (deprecated_of x)) (looks_due d (base f.ty) u below))
         (introspection_over s z n a r of_role alike vars v f.args h.args ∙ sym (mapped_itself (introspection_due c f.args h.args)))
-        (λ x. mapped_same (λ x. x) (look h.name None (deprecated_of x)) (look h.name None (deprecated_of x)) (λ l. refl) (looks_due c (base f.ty) t below) (looks_due d (base f.ty) u below) (inner (base f.ty) t u leads))
+        (λ x. mapped_same (λ x. x) (look h.name None (deprecated_of x)) (look h.name None (deprecated_of x)) (λ l. refl)
+        (looks_due c (base f.ty) t below) (looks_due d (base f.ty) u below) (inner (base f.ty) t u leads))
     own_look f v w o at leads = absurd at
 
     name_look : Next type_name_field type_name_field
@@ -84,7 +86,8 @@ module _ (s z : Schema) (n : Renumbering) (a : Access) (r : SchemaTree) (of_role
   looks_over no_collected place t u at = refl
   looks_over (collected key h below others) place t u at =
       let p = plain_is place at in
-      let one : (known_due d place u h (is_empty below) >>= look_of h (λ k. looks_due d (leads_to k) u below)) ≡ (known_due c place t h (is_empty below) >>= look_of h (λ k. looks_due c (leads_to k) t below)) =
+      let one : (known_due d place u h (is_empty below) >>= look_of h (λ k. looks_due d (leads_to k) u below))
+      ≡ (known_due c place t h (is_empty below) >>= look_of h (λ k. looks_due c (leads_to k) t below)) =
       known_over s z n a r of_role vars (λ x. x) place p.meaning p.here t u h (is_empty below) (look_of h (λ k. looks_due c (leads_to k) t below)) (look_of h (λ k. looks_due d (leads_to k) u below))
       (one_look h below (λ q x y at. looks_over below q x y at) t u place p.meaning p.here p.plain)
       ∙ mapped_itself (known_due c place t h (is_empty below) >>= look_of h (λ k. looks_due c (leads_to k) t below)) in

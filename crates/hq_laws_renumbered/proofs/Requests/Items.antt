@@ -64,7 +64,9 @@ module _ (P : ℕ → Type 0) (f : ℕ → ℕ) (apart : (c d : ℕ) → P c →
   others_map c p [] h = refl
   others_map c p (d ∷ ds) h =
       let later = others_map c p ds h.1 in
-      let go : (b : Bool) → cond (not b) (f d ∷ filter (λ y. not (f c == y)) (map f ds)) (filter (λ y. not (f c == y)) (map f ds)) ≡ map f (cond (not b) (d ∷ filter (λ y. not (c == y)) ds) (filter (λ y. not (c == y)) ds)) =
+      let go : (b : Bool)
+      → cond (not b) (f d ∷ filter (λ y. not (f c == y)) (map f ds)) (filter (λ y. not (f c == y)) (map f ds))
+      ≡ map f (cond (not b) (d ∷ filter (λ y. not (c == y)) ds) (filter (λ y. not (c == y)) ds)) =
       elim [ true ↦ later | false ↦ ap (λ l. f d ∷ l) later ] in
       ap (λ b. cond (not b) (f d ∷ filter (λ y. not (f c == y)) (map f ds)) (filter (λ y. not (f c == y)) (map f ds))) (same_test c d p h.0) ∙ go (c == d)
 

@@ -39,11 +39,15 @@ module _ (s z : Schema) (n : Renumbering) (a : Access) (r : SchemaTree) (of_role
       go false permitted at = absurd at
   for_over k p ty o at = absurd at
 
-  argument_over : (k : ℕ) → a.column u k ≡ true → (args : List ArgTree) → Each (ArgFits r.types (key_target a u)) args → key_argument (map (arg_over n u) args) (n.column u k) ≡ option_map (arg_over n u) (key_argument args k)
+  argument_over : (k : ℕ) → a.column u k ≡ true → (args : List ArgTree) → Each (ArgFits r.types (key_target a u)) args
+      → key_argument (map (arg_over n u) args) (n.column u k) ≡ option_map (arg_over n u) (key_argument args k)
   argument_over k p [] h = refl
   argument_over k p (x ∷ args) h =
       let later = argument_over k p args h.1 in
-      let go : (b : Bool) → cond b (Some (arg_over n u x)) (key_argument (map (arg_over n u) args) (n.column u k)) ≡ option_map (arg_over n u) (cond b (Some x) (key_argument args k)) = elim [ true ↦ refl | false ↦ later ] in
+      let go : (b : Bool)
+      → cond b (Some (arg_over n u x)) (key_argument (map (arg_over n u) args) (n.column u k))
+      ≡ option_map (arg_over n u) (cond b (Some x) (key_argument args k)) =
+      elim [ true ↦ refl | false ↦ later ] in
       ap (λ b. cond b (Some (arg_over n u x)) (key_argument (map (arg_over n u) args) (n.column u k))) (for_over k p x.ty x.origin h.0.reaches) ∙ go (is_for k x.origin)
 
   given_for_over : (k : ℕ) → a.column u k ≡ true → (args : List ArgTree) → Each (ArgFits r.types (key_target a u)) args → (xs : List ArgumentTree)
@@ -69,7 +73,8 @@ module _ (s z : Schema) (n : Renumbering) (a : Access) (r : SchemaTree) (of_role
       go None = refl
       go (Some g) = refl
 
-  pub key_over : IsKeyed s a u → (args : List ArgTree) → Each (ArgFits r.types (key_target a u)) args → (xs : List ArgumentTree) → key_due d (map (arg_over n u) args) xs (n.table u) ≡ key_due c args xs u
+  pub key_over : IsKeyed s a u → (args : List ArgTree) → Each (ArgFits r.types (key_target a u)) args → (xs : List ArgumentTree)
+      → key_due d (map (arg_over n u) args) xs (n.table u) ≡ key_due c args xs u
   key_over keyed args h xs =
       ap (each (part_due d (map (arg_over n u) args) xs (n.table u))) (alike.keys u seen keyed)
       ∙ each_images (λ k. a.column u k ≡ true) (n.column u) (part_due c args xs u) (part_due d (map (arg_over n u) args) xs (n.table u)) (part_over args h xs) (table s u).key keyed

@@ -22,7 +22,8 @@ use Rattle.hq_laws_renumbered.proofs.Requests.Given.{context}
 use Rattle.hq_laws_renumbered.proofs.Requests.Steps.{then_mapped}
 
 -- what follows arguments that are read under w, and in other numbers under v
-pub argued : {A V B C : Type 0} (H : B → C) (at : ℕ) (w : A → FieldArguments) (v : V → FieldArguments) (g : A → V) (x : Read A) (y : Read V) (next : FieldArguments → Due B) (over : FieldArguments → Due C)
+pub argued : {A V B C : Type 0} (H : B → C) (at : ℕ) (w : A → FieldArguments) (v : V → FieldArguments) (g : A → V) (x : Read A) (y : Read V)
+    (next : FieldArguments → Due B) (over : FieldArguments → Due C)
     → y ≡ mapped g x → ((k : A) → over (v (g k)) ≡ mapped H (next (w k))) → and_then over (at_field at (mapped v y)) ≡ mapped H (and_then next (at_field at (mapped w x)))
 argued H at w v g (Ok k) y next over e step = ap (λ o. and_then over (at_field at (mapped v o))) e ∙ step k
 argued H at w v g (Err f) y next over e step = ap (λ o. and_then over (at_field at (mapped v o))) e
@@ -56,7 +57,9 @@ module _ (s z : Schema) (n : Renumbering) (a : Access) (r : SchemaTree) (of_role
           ∙ ap (mapped H) (sym (then_mapped next (λ g. (f, g)) (arguments_due c t f h)))
       complete f found false = refl
 
-      go : (x : Option FieldTree) → known_field r (Some place) h.name ≡ x → and_then over (known_of d u h empty (option_map (field_over n (type_table o)) x)) ≡ mapped H (and_then next (known_of c t h empty x))
+      go : (x : Option FieldTree) → known_field r (Some place) h.name ≡ x
+          → and_then over (known_of d u h empty (option_map (field_over n (type_table o)) x))
+          ≡ mapped H (and_then next (known_of c t h empty x))
       go None is = refl
       go (Some f) is =
           ap (λ b. and_then over (cond b (mapped (λ g. (field_over n (type_table o) f, g)) (arguments_due d u (field_over n (type_table o) f) h)) (refused rule.LeafFieldSelections h)))

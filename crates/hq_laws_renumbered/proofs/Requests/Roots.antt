@@ -61,7 +61,8 @@ module _ (s z : Schema) (n : Renumbering) (a : Access) (r : SchemaTree) (of_role
         argued over h.at given.key given.key (λ x. x) (key_due c f.args h.args u) (key_due d (map (arg_over n v) f.args) h.args (n.table u))
         (λ y. and_then (with_below h (below_at c root below f)) (head_by c r.query root h (f, y) (origin.RowByKey u)))
         (λ y. and_then (with_below h (below_at d there below g)) (head_by d r.query there h (g, y) (origin.RowByKey (n.table u))))
-        (ap (λ w. key_due d (map (arg_over n w) f.args) h.args (n.table u)) is ∙ key_over s z n a r of_role alike vars u seen keyed f.args args h.args ∙ sym (mapped_itself (key_due c f.args h.args u)))
+        (ap (λ w. key_due d (map (arg_over n w) f.args) h.args (n.table u)) is
+        ∙ key_over s z n a r of_role alike vars u seen keyed f.args args h.args ∙ sym (mapped_itself (key_due c f.args h.args u)))
         (λ vs. mapped_over (λ fs. fields_over fs s n u) over (by_key u vs) (by_key (n.table u) vs) (λ fs. refl) (fields_due c (base f.ty) u below) (fields_due d (base g.ty) (n.table u) below)
         (rows_below s z n a r of_role alike vars h below inner r.query root there f g same v u at))
 
@@ -91,13 +92,15 @@ module _ (s z : Schema) (n : Renumbering) (a : Access) (r : SchemaTree) (of_role
   -- `__schema`, and `__type` with the name of a type
   schema_root : (h : FieldHead) (below : CollectedTrees) → asked d r.query there h below schema_field [] origin.Schema ≡ mapped over (asked c r.query root h below schema_field [] origin.Schema)
   schema_root h below =
-      mapped_same over (λ fs. introspect (look h.name None false fs)) (λ fs. introspect (look h.name None false fs)) (λ fs. refl) (looks_due c (base schema_field.ty) root below) (looks_due d (base schema_field.ty) there below)
+      mapped_same over (λ fs. introspect (look h.name None false fs)) (λ fs. introspect (look h.name None false fs)) (λ fs. refl)
+      (looks_due c (base schema_field.ty) root below) (looks_due d (base schema_field.ty) there below)
       (looks_over s z n a r of_role alike vars below (base schema_field.ty) root there of_role.schema_plain)
 
   type_root : (h : FieldHead) (below : CollectedTrees) (v : ℕ)
       → asked d r.query there h below type_field (map (arg_over n v) type_field.args) origin.«Type» ≡ mapped over (asked c r.query root h below type_field type_field.args origin.«Type»)
   type_root h below v =
-      argued over h.at given.type_name given.type_name (λ x. x) (text_due (given_named c type_field.args h.args (codes "name"))) (text_due (given_named d (map (arg_over n v) type_field.args) h.args (codes "name")))
+      argued over h.at given.type_name given.type_name (λ x. x) (text_due (given_named c type_field.args h.args (codes "name")))
+      (text_due (given_named d (map (arg_over n v) type_field.args) h.args (codes "name")))
       (λ y. and_then (with_below h (below_at c root below type_field)) (head_by c r.query root h (type_field, y) origin.«Type»))
       (λ y. and_then (with_below h (below_at d there below type_field)) (head_by d r.query there h (type_field, y) origin.«Type»))
       (ap text_due (named_given n vars r (schema_over n r) s z v type_field.args h.args (codes "name")) ∙ text_over n v (given_named c type_field.args h.args (codes "name"))
@@ -109,12 +112,21 @@ module _ (s z : Schema) (n : Renumbering) (a : Access) (r : SchemaTree) (of_role
       → asked d r.query there h below (field_over n 0 f) (field_over n 0 f).args (field_over n 0 f).origin ≡ mapped over (asked c r.query root h below f f.args f.origin)
   one_root h below f (own i) = own_root h below f (field_over n 0 f) refl (keyed_table f.origin 0) f.origin i.fits.reaches i.fits.args i.looks_up refl
   one_root h below f (of_type_name is) =
-      subst (λ (k : schema.FieldTree). asked d r.query there h below (field_over n 0 k) (field_over n 0 k).args (field_over n 0 k).origin ≡ mapped over (asked c r.query root h below k k.args k.origin)) (sym is)
+      subst
+      (λ (k : schema.FieldTree). asked d r.query there h below (field_over n 0 k) (field_over n 0 k).args (field_over n 0 k).origin
+      ≡ mapped over (asked c r.query root h below k k.args k.origin))
+      (sym is)
       (name_over_below s z n a r of_role alike vars h below (all_over s z n a r of_role alike vars below) r.query root there type_name_field (field_over n 0 type_name_field) refl 0)
   one_root h below f (of_schema at is) =
-      subst (λ (k : schema.FieldTree). asked d r.query there h below (field_over n 0 k) (field_over n 0 k).args (field_over n 0 k).origin ≡ mapped over (asked c r.query root h below k k.args k.origin)) (sym is) (schema_root h below)
+      subst
+      (λ (k : schema.FieldTree). asked d r.query there h below (field_over n 0 k) (field_over n 0 k).args (field_over n 0 k).origin
+      ≡ mapped over (asked c r.query root h below k k.args k.origin))
+      (sym is) (schema_root h below)
   one_root h below f (of_type at is) =
-      subst (λ (k : schema.FieldTree). asked d r.query there h below (field_over n 0 k) (field_over n 0 k).args (field_over n 0 k).origin ≡ mapped over (asked c r.query root h below k k.args k.origin)) (sym is) (type_root h below 0)
+      subst
+      (λ (k : schema.FieldTree). asked d r.query there h below (field_over n 0 k) (field_over n 0 k).args (field_over n 0 k).origin
+      ≡ mapped over (asked c r.query root h below k k.args k.origin))
+      (sym is) (type_root h below 0)
 
   -- all root fields
   pub roots_over : (trees : CollectedTrees) → root_due vars (schema_over n r) z there trees ≡ mapped (λ fs. fields_over fs s n root) (root_due vars r s root trees)
@@ -125,4 +137,5 @@ module _ (s z : Schema) (n : Renumbering) (a : Access) (r : SchemaTree) (of_role
       then_over over (λ fs. fields_over fs s n root) (λ x. mapped (field key x) (fields_due c r.query root others)) (λ x. mapped (field key x) (fields_due d r.query there others))
       (known_due c r.query root h (is_empty below) >>= next) (known_due d r.query there h (is_empty below) >>= more)
       (known_over s z n a r of_role vars over r.query type.Query of_role.root root there h (is_empty below) next more (one_root h below))
-      (λ x e. mapped_over (λ fs. fields_over fs s n root) (λ fs. fields_over fs s n root) (field key x) (field key (over x)) (λ fs. refl) (fields_due c r.query root others) (fields_due d r.query there others) (roots_over others))
+      (λ x e. mapped_over (λ fs. fields_over fs s n root) (λ fs. fields_over fs s n root) (field key x) (field key (over x)) (λ fs. refl)
+      (fields_due c r.query root others) (fields_due d r.query there others) (roots_over others))

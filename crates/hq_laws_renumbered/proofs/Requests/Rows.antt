@@ -81,7 +81,9 @@ module _ (s z : Schema) (n : Renumbering) (a : Access) (r : SchemaTree) (of_role
     listed x w u o k args = and_then (λ (y : FieldArguments). and_then (with_below h (below_at x w below k)) (list_head_due u o h (k, y))) (at_field h.at (mapped rows (list_due x args h.args u)))
 
     abbrev totalled : Context → (t u : ℕ) → Option ℕ → schema.FieldTree → List ArgTree → Due FieldTree
-    totalled x w u o k args = and_then (λ (y : FieldArguments). and_then (with_below h (below_at x w below k)) (aggregate_head_due u o h (k, y))) (at_field h.at (mapped rows (list_due x args h.args u)))
+    totalled x w u o k args =
+        and_then (λ (y : FieldArguments). and_then (with_below h (below_at x w below k)) (aggregate_head_due u o h (k, y)))
+        (at_field h.at (mapped rows (list_due x args h.args u)))
 
     pub listed_over : (u : ℕ) (o q : Option ℕ) → origin_over (origin_of u o) n t ≡ origin_of (n.table u) q → origin_table (origin_of u o) s t ≡ u
         → At types (base f.ty) (type.Rows u) → Each (ArgFits types (list_target (Some u))) f.args
@@ -91,7 +93,8 @@ module _ (s z : Schema) (n : Renumbering) (a : Access) (r : SchemaTree) (of_role
         (λ y. and_then (with_below h (below_at c t below f)) (list_head_due u o h (f, y))) (λ y. and_then (with_below h (below_at d t_there below g)) (list_head_due (n.table u) q h (g, y)))
         (list_due_over s z n a r of_role alike vars u v f.args h.args args)
         (λ x. mapped_over (λ fs. fields_over fs s n u) over (list (origin_of u o) x) (list (origin_of (n.table u) q) (arguments_over x s n u))
-        (λ fs. ap₂ (λ w y. list w (arguments_over x s n y) (fields_over fs s n y)) (sym begins) (sym starts)) (fields_due c (base f.ty) u below) (fields_due d (base g.ty) (n.table u) below) (rows_below u at))
+        (λ fs. ap₂ (λ w y. list w (arguments_over x s n y) (fields_over fs s n y)) (sym begins) (sym starts))
+        (fields_due c (base f.ty) u below) (fields_due d (base g.ty) (n.table u) below) (rows_below u at))
 
     pub totalled_over : (u : ℕ) (o q : Option ℕ) → origin_over (origin_of u o) n t ≡ origin_of (n.table u) q → origin_table (origin_of u o) s t ≡ u
         → At types (base f.ty) (type.Aggregate u) → Each (ArgFits types (list_target (Some u))) f.args
@@ -101,13 +104,16 @@ module _ (s z : Schema) (n : Renumbering) (a : Access) (r : SchemaTree) (of_role
         (λ y. and_then (with_below h (below_at c t below f)) (aggregate_head_due u o h (f, y))) (λ y. and_then (with_below h (below_at d t_there below g)) (aggregate_head_due (n.table u) q h (g, y)))
         (list_due_over s z n a r of_role alike vars u v f.args h.args args)
         (λ x. mapped_over (λ ps. parts_over ps s n u) over (aggregate (origin_of u o) x) (aggregate (origin_of (n.table u) q) (arguments_over x s n u))
-        (λ ps. ap₂ (λ w y. aggregate w (arguments_over x s n y) (parts_over ps s n y)) (sym begins) (sym starts)) (parts_due c (base f.ty) u below) (parts_due d (base g.ty) (n.table u) below) (parts_below u at))
+        (λ ps. ap₂ (λ w y. aggregate w (arguments_over x s n y) (parts_over ps s n y)) (sym begins) (sym starts))
+        (parts_due c (base f.ty) u below) (parts_due d (base g.ty) (n.table u) below) (parts_below u at))
 
     -- the name of the type
     pub name_over_below : asked d place t_there h below g [] origin.TypeName ≡ mapped over (asked c place t h below f [] origin.TypeName)
     name_over_below = go (type_name_due r place h) (type_name_due (schema_over n r) place h) (name_over n r place h)
       where
-        go : (x y : Due (List ℕ)) → y ≡ x → and_then (with_below h (below_at d t_there below g)) (mapped (λ name. leaf (typename name)) y) ≡ mapped over (and_then (with_below h (below_at c t below f)) (mapped (λ name. leaf (typename name)) x))
+        go : (x y : Due (List ℕ)) → y ≡ x
+            → and_then (with_below h (below_at d t_there below g)) (mapped (λ name. leaf (typename name)) y)
+            ≡ mapped over (and_then (with_below h (below_at c t below f)) (mapped (λ name. leaf (typename name)) x))
         go (Ok name) y e = ap (λ w. and_then (with_below h (below_at d t_there below g)) (mapped (λ name. leaf (typename name)) w)) e
         go (Err e) y is = ap (λ w. and_then (with_below h (below_at d t_there below g)) (mapped (λ name. leaf (typename name)) w)) is
 
@@ -118,18 +124,21 @@ module _ (s z : Schema) (n : Renumbering) (a : Access) (r : SchemaTree) (of_role
     row x = asked_over x s n t
 
     object_row : (q : ℕ) (o : Option Rel) → a.rel t q ≡ o → Reaches types f.ty (behind_one o type.Rows)
-        → mapped (object (n.relationship t q)) (fields_due d (base g.ty) (rel z (n.table t) (n.relationship t q)).remote below) ≡ mapped row (mapped (object q) (fields_due c (base f.ty) (rel s t q).remote below))
+        → mapped (object (n.relationship t q)) (fields_due d (base g.ty) (rel z (n.table t) (n.relationship t q)).remote below)
+        ≡ mapped row (mapped (object q) (fields_due c (base f.ty) (rel s t q).remote below))
     object_row q None is at = absurd at
     object_row q (Some x) is at = go x.many refl at
       where
         go : (b : Bool) → x.many ≡ b → Reaches types f.ty (where_holds (not b) (to (type.Rows x.remote)))
-            → mapped (object (n.relationship t q)) (fields_due d (base g.ty) (rel z (n.table t) (n.relationship t q)).remote below) ≡ mapped row (mapped (object q) (fields_due c (base f.ty) (rel s t q).remote below))
+            → mapped (object (n.relationship t q)) (fields_due d (base g.ty) (rel z (n.table t) (n.relationship t q)).remote below)
+            ≡ mapped row (mapped (object q) (fields_due c (base f.ty) (rel s t q).remote below))
         go true many at = absurd at
         go false one at =
             let leads = alike.leads t q x seen is (type_seen s a r of_role (base f.ty) (type.Rows x.remote) at) in
             let u : ℕ = (rel s t q).remote in
             let there : (rel z (n.table t) (n.relationship t q)).remote ≡ n.table u = leads.1 ∙ ap n.table (sym leads.0) in
-            mapped_over (λ fs. fields_over fs s n u) row (object q) (object (n.relationship t q)) (λ fs. refl) (fields_due c (base f.ty) u below) (fields_due d (base g.ty) (rel z (n.table t) (n.relationship t q)).remote below)
+            mapped_over (λ fs. fields_over fs s n u) row (object q) (object (n.relationship t q)) (λ fs. refl)
+            (fields_due c (base f.ty) u below) (fields_due d (base g.ty) (rel z (n.table t) (n.relationship t q)).remote below)
             (ap (λ w. fields_due d (base g.ty) w below) there ∙ rows_below h below inner place t (n.table t) f g same v u (subst (λ w. At types (base f.ty) (type.Rows w)) (sym leads.0) at))
 
     list_row : (q : ℕ) (o : Option Rel) → a.rel t q ≡ o → Reaches types f.ty (behind_many o type.Rows) → Each (ArgFits types (list_target (remote_of o))) f.args
@@ -178,7 +187,10 @@ module _ (s z : Schema) (n : Renumbering) (a : Access) (r : SchemaTree) (of_role
   one_row h below inner place t at f (own i) =
       own_row h below inner place t f (field_over n t f) refl (keyed_table f.origin t) (type_seen s a r of_role place (type.Rows t) at) f.origin i.fits.reaches i.fits.args
   one_row h below inner place t at f (of_type_name is) =
-      subst (λ (k : schema.FieldTree). asked d place (n.table t) h below (field_over n t k) (field_over n t k).args (field_over n t k).origin ≡ mapped (λ x. asked_over x s n t) (asked c place t h below k k.args k.origin)) (sym is)
+      subst
+      (λ (k : schema.FieldTree). asked d place (n.table t) h below (field_over n t k) (field_over n t k).args (field_over n t k).origin
+      ≡ mapped (λ x. asked_over x s n t) (asked c place t h below k k.args k.origin))
+      (sym is)
       (name_over_below h below inner place t (n.table t) type_name_field (field_over n t type_name_field) refl 0)
   one_row h below inner place t at f (of_schema root is) = let no : type.Query ≡ type.Rows t = root_is s a r of_role place (type.Rows t) root at in cc
   one_row h below inner place t at f (of_type root is) = let no : type.Query ≡ type.Rows t = root_is s a r of_role place (type.Rows t) root at in cc
@@ -187,7 +199,9 @@ module _ (s z : Schema) (n : Renumbering) (a : Access) (r : SchemaTree) (of_role
 
   module _ (h : FieldHead) (below : CollectedTrees) (inner : Inner below) (place u : ℕ) where
     abbrev part_asked : Context → ℕ → schema.FieldTree → List ArgTree → FieldOrigin → Due PartTree
-    part_asked x w f args o = and_then (λ (y : FieldArguments). part_by x place h (summaries_due x (base f.ty) w below) (fields_due x (base f.ty) w below) o) (at_field h.at (by_origin x w args h.args o))
+    part_asked x w f args o =
+        and_then (λ (y : FieldArguments). part_by x place h (summaries_due x (base f.ty) w below) (fields_due x (base f.ty) w below) o)
+        (at_field h.at (by_origin x w args h.args o))
 
     abbrev parted : PartTree → PartTree
     parted p = part_over p s n u
@@ -208,7 +222,10 @@ module _ (s z : Schema) (n : Renumbering) (a : Access) (r : SchemaTree) (of_role
         → part_asked d (n.table u) (field_over n u f) (field_over n u f).args (field_over n u f).origin ≡ mapped parted (part_asked c u f f.args f.origin)
     one_part at f (own i) = own_part f (keyed_table f.origin u) f.origin i.fits.reaches
     one_part at f (of_type_name is) =
-        subst (λ (k : schema.FieldTree). part_asked d (n.table u) (field_over n u k) (field_over n u k).args (field_over n u k).origin ≡ mapped parted (part_asked c u k k.args k.origin)) (sym is) name_part
+        subst
+        (λ (k : schema.FieldTree). part_asked d (n.table u) (field_over n u k) (field_over n u k).args (field_over n u k).origin
+        ≡ mapped parted (part_asked c u k k.args k.origin))
+        (sym is) name_part
     one_part at f (of_schema root is) = let no : type.Query ≡ type.Aggregate u = root_is s a r of_role place (type.Aggregate u) root at in cc
     one_part at f (of_type root is) = let no : type.Query ≡ type.Aggregate u = root_is s a r of_role place (type.Aggregate u) root at in cc
 
@@ -222,7 +239,8 @@ module _ (s z : Schema) (n : Renumbering) (a : Access) (r : SchemaTree) (of_role
       then_over (λ x. asked_over x s n t) (λ fs. fields_over fs s n t) (λ f. mapped (field key f) (fields_due c place t others)) (λ f. mapped (field key f) (fields_due d place (n.table t) others))
       (known_due c place t h (is_empty below) >>= next) (known_due d place (n.table t) h (is_empty below) >>= over)
       (known_over s z n a r of_role vars (λ x. asked_over x s n t) place (type.Rows t) at t (n.table t) h (is_empty below) next over (one_row h below inner place t at))
-      (λ f e. mapped_over (λ fs. fields_over fs s n t) (λ fs. fields_over fs s n t) (field key f) (field key (asked_over f s n t)) (λ fs. refl) (fields_due c place t others) (fields_due d place (n.table t) others) (later.rows place t at))
+      (λ f e. mapped_over (λ fs. fields_over fs s n t) (λ fs. fields_over fs s n t) (field key f) (field key (asked_over f s n t))
+      (λ fs. refl) (fields_due c place t others) (fields_due d place (n.table t) others) (later.rows place t at))
 
   parts_one : (key : List ℕ) (h : FieldHead) (below others : CollectedTrees) → Inner below → Inner others → (place u : ℕ) → At types place (type.Aggregate u)
       → parts_due d place (n.table u) (collected key h below others) ≡ mapped (λ ps. parts_over ps s n u) (parts_due c place u (collected key h below others))
@@ -232,7 +250,8 @@ module _ (s z : Schema) (n : Renumbering) (a : Access) (r : SchemaTree) (of_role
       then_over (λ p. part_over p s n u) (λ ps. parts_over ps s n u) (λ p. mapped (part key p) (parts_due c place u others)) (λ p. mapped (part key p) (parts_due d place (n.table u) others))
       (known_due c place u h (is_empty below) >>= next) (known_due d place (n.table u) h (is_empty below) >>= over)
       (known_over s z n a r of_role vars (λ p. part_over p s n u) place (type.Aggregate u) at u (n.table u) h (is_empty below) next over (one_part h below inner place u at))
-      (λ p e. mapped_over (λ ps. parts_over ps s n u) (λ ps. parts_over ps s n u) (part key p) (part key (part_over p s n u)) (λ ps. refl) (parts_due c place u others) (parts_due d place (n.table u) others) (later.parts place u at))
+      (λ p e. mapped_over (λ ps. parts_over ps s n u) (λ ps. parts_over ps s n u) (part key p) (part key (part_over p s n u)) (λ ps. refl)
+      (parts_due c place u others) (parts_due d place (n.table u) others) (later.parts place u at))
 
   pub all_over : (trees : CollectedTrees) → Inner trees
   all_over no_collected = record { rows = λ place u at. refl; parts = λ place u at. refl }

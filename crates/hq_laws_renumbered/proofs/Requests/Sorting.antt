@@ -61,7 +61,8 @@ module _ (s z : Schema) (n : Renumbering) (a : Access) (r : SchemaTree) (of_role
   both_read t y x more_y more_x h k = record {
     over =
         then_over (map (sort_over s n t)) (map (sort_over s n t)) (λ here. mapped (λ more. here ++ more) more_x) (λ here. mapped (λ more. here ++ more) more_y) x y h.over
-        (λ here e. mapped_over (map (sort_over s n t)) (map (sort_over s n t)) (λ more. here ++ more) (λ more. map (sort_over s n t) here ++ more) (λ more. sym (map-append (sort_over s n t) here more)) more_x more_y k.over);
+        (λ here e. mapped_over (map (sort_over s n t)) (map (sort_over s n t)) (λ more. here ++ more)
+        (λ more. map (sort_over s n t) here ++ more) (λ more. sym (map-append (sort_over s n t) here more)) more_x more_y k.over);
     used = λ ks e.
         let one = then_ok (λ here. mapped (λ more. here ++ more) more_x) x ks e in
         let two = mapped_ok (λ more. one.0 ++ more) more_x ks one.2 in
@@ -83,7 +84,8 @@ module _ (s z : Schema) (n : Renumbering) (a : Access) (r : SchemaTree) (of_role
   end_permitted (q ∷ qs) from t col end permitted = tt
 
   module _ (from : ℕ) where
-    column_read : (qs : List ℕ) (t col : ℕ) (j : JsonTree) → path_end qs s from ≡ t → a.column t col ≡ true → SortsRead from (column_sort (path_over qs s n from) (n.column t col) j) (column_sort qs col j)
+    column_read : (qs : List ℕ) (t col : ℕ) (j : JsonTree) → path_end qs s from ≡ t → a.column t col ≡ true
+        → SortsRead from (column_sort (path_over qs s n from) (n.column t col) j) (column_sort qs col j)
     column_read qs t col j end permitted = record {
       over =
           mapped_same (map (sort_over s n from)) (λ w. sort_by qs col w ∷ []) (λ w. sort_by (path_over qs s n from) (n.column t col) w ∷ [])
@@ -96,7 +98,8 @@ module _ (s z : Schema) (n : Renumbering) (a : Access) (r : SchemaTree) (of_role
     -- one member, where its value is read as an entry
     module _ (j : JsonTree)
         (entry_read : (qs : List ℕ) (p t : ℕ) → At types p (type.Sort t) → path_end qs s from ≡ t → SortsRead from (entry_due j d (path_over qs s n from) p (n.table t)) (entry_due j c qs p t)) where
-      through_read : (qs : List ℕ) (t q p : ℕ) (o : Option Rel) → a.rel t q ≡ o → a.seen t ≡ true → (ty : TypeRefTree) → Reaches types ty (behind_one o type.Sort) → base ty ≡ p → path_end qs s from ≡ t
+      through_read : (qs : List ℕ) (t q p : ℕ) (o : Option Rel) → a.rel t q ≡ o → a.seen t ≡ true → (ty : TypeRefTree)
+          → Reaches types ty (behind_one o type.Sort) → base ty ≡ p → path_end qs s from ≡ t
           → SortsRead from (entry_due j d (path_over qs s n from ++ n.relationship t q ∷ []) p (rel z (n.table t) (n.relationship t q)).remote) (entry_due j c (qs ++ q ∷ []) p (rel s t q).remote)
       through_read qs t q p None is seen ty at place end = absurd at
       through_read qs t q p (Some x) is seen ty at place end = go x.many refl at
@@ -115,7 +118,9 @@ module _ (s z : Schema) (n : Renumbering) (a : Access) (r : SchemaTree) (of_role
               subst (λ y. SortsRead from y (entry_due j c (qs ++ q ∷ []) p (rel s t q).remote)) (ap₂ (λ l u. entry_due j d l p u) path there) inner
 
       origin_read : (qs : List ℕ) (t : ℕ) (ty : TypeRefTree) (o : ArgOrigin) → a.seen t ≡ true → Reaches types ty (sort_target a t o) → path_end qs s from ≡ t
-          → SortsRead from (by_origin (λ deeper q u. entry_due j d deeper q u) j d (path_over qs s n from) (n.table t) (base ty) (arg_origin_over n t o)) (by_origin (λ deeper q u. entry_due j c deeper q u) j c qs t (base ty) o)
+          → SortsRead from
+          (by_origin (λ deeper q u. entry_due j d deeper q u) j d (path_over qs s n from) (n.table t) (base ty) (arg_origin_over n t o))
+          (by_origin (λ deeper q u. entry_due j c deeper q u) j c qs t (base ty) o)
       origin_read qs t ty (stands.Column k) seen at end = go (a.column t k) refl at
         where
           go : (b : Bool) → a.column t k ≡ b → Reaches types ty (where_holds b (to type.Directions)) → SortsRead from (column_sort (path_over qs s n from) (n.column t k) j) (column_sort qs k j)
@@ -132,12 +137,15 @@ module _ (s z : Schema) (n : Renumbering) (a : Access) (r : SchemaTree) (of_role
           (ap (member_due (λ deeper q u. entry_due j d deeper q u) j d (path_over qs s n from) (n.table t)) (sym (input_over n r p (type.Sort t) at name))) (go (input_field_of r p name) refl)
         where
           go : (x : Option ArgTree) → input_field_of r p name ≡ x
-              → SortsRead from (member_due (λ deeper q u. entry_due j d deeper q u) j d (path_over qs s n from) (n.table t) (option_map (arg_over n t) x)) (member_due (λ deeper q u. entry_due j c deeper q u) j c qs t x)
+              → SortsRead from
+              (member_due (λ deeper q u. entry_due j d deeper q u) j d (path_over qs s n from) (n.table t) (option_map (arg_over n t) x))
+              (member_due (λ deeper q u. entry_due j c deeper q u) j c qs t x)
           go None is = record { over = refl; used = λ ks e. cc }
           go (Some x) is = origin_read qs t x.ty x.origin (type_seen s a r of_role p (type.Sort t) at) (input_found s a r of_role p (type.Sort t) name x at is).reaches end
 
     mutual
-      entry_read : (j : JsonTree) (qs : List ℕ) (p t : ℕ) → At types p (type.Sort t) → path_end qs s from ≡ t → SortsRead from (entry_due j d (path_over qs s n from) p (n.table t)) (entry_due j c qs p t)
+      entry_read : (j : JsonTree) (qs : List ℕ) (p t : ℕ) → At types p (type.Sort t) → path_end qs s from ≡ t
+          → SortsRead from (entry_due j d (path_over qs s n from) p (n.table t)) (entry_due j c qs p t)
       entry_read null qs p t at end = record { over = refl; used = λ ks e. cc }
       entry_read (bool b) qs p t at end = record { over = refl; used = λ ks e. cc }
       entry_read (int m) qs p t at end = record { over = refl; used = λ ks e. cc }
@@ -145,7 +153,8 @@ module _ (s z : Schema) (n : Renumbering) (a : Access) (r : SchemaTree) (of_role
       entry_read (arr js) qs p t at end = record { over = refl; used = λ ks e. cc }
       entry_read (obj ms) qs p t at end = members_read ms qs p t at end
 
-      members_read : (ms : MemberTrees) (qs : List ℕ) (p t : ℕ) → At types p (type.Sort t) → path_end qs s from ≡ t → SortsRead from (members_due ms d (path_over qs s n from) p (n.table t)) (members_due ms c qs p t)
+      members_read : (ms : MemberTrees) (qs : List ℕ) (p t : ℕ) → At types p (type.Sort t) → path_end qs s from ≡ t
+          → SortsRead from (members_due ms d (path_over qs s n from) p (n.table t)) (members_due ms c qs p t)
       members_read no_member qs p t at end = none_read from
       members_read (member name j ms) qs p t at end =
           both_read from (member_due (λ deeper q u. entry_due j d deeper q u) j d (path_over qs s n from) (n.table t) (input_field_of (schema_over n r) p name))
@@ -182,12 +191,14 @@ module _ (s z : Schema) (n : Renumbering) (a : Access) (r : SchemaTree) (of_role
 
   -- ---- the argument
 
-  by_sorts_read : (u v : ℕ) (j : JsonTree) (ty : TypeRefTree) (o : ArgOrigin) → Reaches types ty (list_target (Some u) o) → SortsRead u (by_sorts d (n.table u) j (base ty) (arg_origin_over n v o)) (by_sorts c u j (base ty) o)
+  by_sorts_read : (u v : ℕ) (j : JsonTree) (ty : TypeRefTree) (o : ArgOrigin) → Reaches types ty (list_target (Some u) o)
+      → SortsRead u (by_sorts d (n.table u) j (base ty) (arg_origin_over n v o)) (by_sorts c u j (base ty) o)
   by_sorts_read u v j ty stands.OrderBy at = within_read u (entries_due d (base ty) (n.table u) (items_in j)) (entries_due c (base ty) u (items_in j)) (entries_read (base ty) u at (items_in j))
   by_sorts_read u v j ty (stands.Column e) at = none_read u
   by_sorts_read u v j ty (stands.Relationship e) at = none_read u
   by_sorts_read u v j ty o at = none_read u
 
-  pub order_by_read : (u v : ℕ) (o : Option Given) → ((g : Given) → o ≡ Some g → ArgFits types (list_target (Some u)) g.arg) → SortsRead u (order_by_due d (n.table u) (option_map (given_over n v) o)) (order_by_due c u o)
+  pub order_by_read : (u v : ℕ) (o : Option Given) → ((g : Given) → o ≡ Some g → ArgFits types (list_target (Some u)) g.arg)
+      → SortsRead u (order_by_due d (n.table u) (option_map (given_over n v) o)) (order_by_due c u o)
   order_by_read u v None h = none_read u
   order_by_read u v (Some g) h = by_sorts_read u v g.value g.arg.ty g.arg.origin (h g refl).reaches

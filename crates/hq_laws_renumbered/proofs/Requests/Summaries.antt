@@ -51,7 +51,8 @@ module _ (s z : Schema) (n : Renumbering) (a : Access) (r : SchemaTree) (of_role
     -- what follows a field with its arguments
     abbrev Taken : FieldTree → List ArgTree → List ArgTree → FieldOrigin → FieldOrigin → Type 0
     Taken f args more o q =
-        and_then (λ x. taken_by d place h q) (at_field h.at (by_origin d (n.table u) more h.args q)) ≡ mapped (taken_over n u) (and_then (λ x. taken_by c place h o) (at_field h.at (by_origin c u args h.args o)))
+        and_then (λ x. taken_by d place h q) (at_field h.at (by_origin d (n.table u) more h.args q))
+        ≡ mapped (taken_over n u) (and_then (λ x. taken_by c place h o) (at_field h.at (by_origin c u args h.args o)))
 
     own_taken : (f : FieldTree) (v : ℕ) (o : FieldOrigin) → Reaches r.types f.ty (column_target a u o) → Taken f f.args (map (arg_over n v) f.args) o (field_origin_over n u o)
     own_taken f v (origin.Column k) at = refl
@@ -67,13 +68,16 @@ module _ (s z : Schema) (n : Renumbering) (a : Access) (r : SchemaTree) (of_role
     one_taken g at f (of_schema root is) = let no : type.Query ≡ type.Aggregated g u = root_is s a r of_role place (type.Aggregated g u) root at in cc
     one_taken g at f (of_type root is) = let no : type.Query ≡ type.Aggregated g u = root_is s a r of_role place (type.Aggregated g u) root at in cc
 
-  taken_due_over : (g : Aggregate) (trees : CollectedTrees) (place : ℕ) → At r.types place (type.Aggregated g u) → taken_due d place (n.table u) trees ≡ mapped (map (keyed_taken_over n u)) (taken_due c place u trees)
+  taken_due_over : (g : Aggregate) (trees : CollectedTrees) (place : ℕ) → At r.types place (type.Aggregated g u)
+      → taken_due d place (n.table u) trees ≡ mapped (map (keyed_taken_over n u)) (taken_due c place u trees)
   taken_due_over g no_collected place at = refl
   taken_due_over g (collected key h below others) place at =
       then_over (taken_over n u) (map (keyed_taken_over n u)) (λ f. mapped (with_taken key f) (taken_due c place u others)) (λ f. mapped (with_taken key f) (taken_due d place (n.table u) others))
       (known_due c place u h (is_empty below) >>= λ (k : Known). taken_by c place h k.0.origin) (known_due d place (n.table u) h (is_empty below) >>= λ (k : Known). taken_by d place h k.0.origin)
-      (known_over s z n a r of_role vars (taken_over n u) place (type.Aggregated g u) at u (n.table u) h (is_empty below) (λ (k : Known). taken_by c place h k.0.origin) (λ (k : Known). taken_by d place h k.0.origin) (one_taken place h g at))
-      (λ f e. mapped_over (map (keyed_taken_over n u)) (map (keyed_taken_over n u)) (with_taken key f) (with_taken key (taken_over n u f)) (λ fs. refl) (taken_due c place u others) (taken_due d place (n.table u) others)
+      (known_over s z n a r of_role vars (taken_over n u) place (type.Aggregated g u) at u (n.table u) h (is_empty below)
+      (λ (k : Known). taken_by c place h k.0.origin) (λ (k : Known). taken_by d place h k.0.origin) (one_taken place h g at))
+      (λ f e. mapped_over (map (keyed_taken_over n u)) (map (keyed_taken_over n u)) (with_taken key f) (with_taken key (taken_over n u f))
+      (λ fs. refl) (taken_due c place u others) (taken_due d place (n.table u) others)
       (taken_due_over g others place at))
 
   -- ---- aggregate
@@ -93,13 +97,17 @@ module _ (s z : Schema) (n : Renumbering) (a : Access) (r : SchemaTree) (of_role
     counted f g (given.deprecated x) = refl
     counted f g given.nothing = refl
 
-    own_summed : (f g : FieldTree) (v : ℕ) → g.ty ≡ f.ty → (o : FieldOrigin) → Reaches r.types f.ty (over_target u o) → Each (ArgFits r.types (over_args u o)) f.args → Summed f g f.args (map (arg_over n v) f.args) o (field_origin_over n u o)
+    own_summed : (f g : FieldTree) (v : ℕ) → g.ty ≡ f.ty → (o : FieldOrigin) → Reaches r.types f.ty (over_target u o)
+        → Each (ArgFits r.types (over_args u o)) f.args → Summed f g f.args (map (arg_over n v) f.args) o (field_origin_over n u o)
     own_summed f g v ty origin.Count at args =
-        argued_by (summary_over n u) h.at (count_over n u) (count_due c f.args h.args u) (count_due d (map (arg_over n v) f.args) h.args (n.table u)) (λ x. summary_by c place h (f, x) (taken_due c (base f.ty) u below) origin.Count)
+        argued_by (summary_over n u) h.at (count_over n u) (count_due c f.args h.args u)
+        (count_due d (map (arg_over n v) f.args) h.args (n.table u))
+        (λ x. summary_by c place h (f, x) (taken_due c (base f.ty) u below) origin.Count)
         (λ x. summary_by d place h (g, x) (taken_due d (base g.ty) (n.table u) below) origin.Count) (count_due_over s z n a r of_role alike vars u v f.args h.args args) (counted f g)
     own_summed f g v ty (origin.Aggregated x) at args =
         ap (λ (w : TypeRefTree). mapped (take.Columns x) (taken_due d (base w) (n.table u) below)) ty
-        ∙ mapped_over (map (keyed_taken_over n u)) (summary_over n u) (take.Columns x) (take.Columns x) (λ fs. refl) (taken_due c (base f.ty) u below) (taken_due d (base f.ty) (n.table u) below) (taken_due_over x below (base f.ty) at)
+        ∙ mapped_over (map (keyed_taken_over n u)) (summary_over n u) (take.Columns x) (take.Columns x) (λ fs. refl)
+        (taken_due c (base f.ty) u below) (taken_due d (base f.ty) (n.table u) below) (taken_due_over x below (base f.ty) at)
     own_summed f g v ty o at args = absurd at
 
     name_summed : Summed type_name_field type_name_field [] [] origin.TypeName origin.TypeName
@@ -112,12 +120,14 @@ module _ (s z : Schema) (n : Renumbering) (a : Access) (r : SchemaTree) (of_role
     one_summed at f (of_schema root is) = let no : type.Query ≡ type.AggregateFields u = root_is s a r of_role place (type.AggregateFields u) root at in cc
     one_summed at f (of_type root is) = let no : type.Query ≡ type.AggregateFields u = root_is s a r of_role place (type.AggregateFields u) root at in cc
 
-  pub summaries_over : (trees : CollectedTrees) (place : ℕ) → At r.types place (type.AggregateFields u) → summaries_due d place (n.table u) trees ≡ mapped (map (keyed_summary_over n u)) (summaries_due c place u trees)
+  pub summaries_over : (trees : CollectedTrees) (place : ℕ) → At r.types place (type.AggregateFields u)
+      → summaries_due d place (n.table u) trees ≡ mapped (map (keyed_summary_over n u)) (summaries_due c place u trees)
   summaries_over no_collected place at = refl
   summaries_over (collected key h below others) place at =
       let next : Known → Due AggField = λ k. summary_by c place h k (taken_due c (leads_to k) u below) k.0.origin in
       let over : Known → Due AggField = λ k. summary_by d place h k (taken_due d (leads_to k) (n.table u) below) k.0.origin in
-      then_over (summary_over n u) (map (keyed_summary_over n u)) (λ f. mapped (with_summary key f) (summaries_due c place u others)) (λ f. mapped (with_summary key f) (summaries_due d place (n.table u) others))
+      then_over (summary_over n u) (map (keyed_summary_over n u)) (λ f. mapped (with_summary key f) (summaries_due c place u others))
+      (λ f. mapped (with_summary key f) (summaries_due d place (n.table u) others))
       (known_due c place u h (is_empty below) >>= next) (known_due d place (n.table u) h (is_empty below) >>= over)
       (known_over s z n a r of_role vars (summary_over n u) place (type.AggregateFields u) at u (n.table u) h (is_empty below) next over (one_summed place h below at))
       (λ f e. mapped_over (map (keyed_summary_over n u)) (map (keyed_summary_over n u)) (with_summary key f) (with_summary key (summary_over n u f)) (λ fs. refl) (summaries_due c place u others)

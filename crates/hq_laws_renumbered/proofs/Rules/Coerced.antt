@@ -90,7 +90,9 @@ any_alike p q same (x ∷ xs) = rw (same x, any_alike p q same xs) refl
 
 same_required_at : (parts : List PartTree) (place : ℕ) → required_at (map blank_part parts) place ≡ required_at parts place
 same_required_at parts place =
-    ap (λ l. slice_index_or l place []) (map_twice (λ (p : PartTree). required_names p.nodes) blank_part (λ p. required_names p.nodes) (λ p. filter_map_map required_of required_of blank_node same_required_of p.nodes) parts)
+    ap (λ l. slice_index_or l place [])
+    (map_twice (λ (p : PartTree). required_names p.nodes) blank_part (λ p. required_names p.nodes)
+    (λ p. filter_map_map required_of required_of blank_node same_required_of p.nodes) parts)
 
 pub same_required : (s : SchemaTree) (d : DocumentTree) (operation : ℕ) (name : List ℕ) → is_required (blank s) d operation name ≡ is_required s d operation name
 same_required s d operation name =
@@ -111,14 +113,20 @@ same_if_known : (s : SchemaTree) (at : ℕ) (required : Bool) (ty : Option TypeR
 same_if_known s at required None given = refl
 same_if_known s at required (Some r) given = same_due s at required r given
 
-same_values : (s : SchemaTree) (required wanted : List ℕ → Bool) → ((name : List ℕ) → required name ≡ wanted name) → (given : List (List ℕ × JsonTree)) (vs : List VarDefTree) → values_due (blank s) required given vs ≡ values_due s wanted given vs
+same_values : (s : SchemaTree) (required wanted : List ℕ → Bool) → ((name : List ℕ) → required name ≡ wanted name)
+    → (given : List (List ℕ × JsonTree)) (vs : List VarDefTree) → values_due (blank s) required given vs ≡ values_due s wanted given vs
 same_values s required wanted same given [] = refl
 same_values s required wanted same given (v ∷ vs) =
     let one : variable_due (blank s) required given v ≡ variable_due s wanted given v =
     ap₂ (λ (b : Bool) (ty : Option TypeRefTree). value_if_known (blank s) v.at b ty (given_value given v)) (same v.name) (same_resolved s v.ty)
     ∙ same_if_known s v.at (wanted v.name) (resolved s v.ty) (given_value given v) in
-    ap₂ (λ (r : Result (Option JsonTree) CoerceRefusal) (rest : Result (List VarTree) CoerceRefusal). and_then (λ o. mapped (with_value v.name o) rest) r) one (same_values s required wanted same given vs)
+    ap₂
+    (λ (r : Result (Option JsonTree) CoerceRefusal) (rest : Result (List VarTree) CoerceRefusal). and_then
+    (λ o. mapped (with_value v.name o) rest) r)
+    one (same_values s required wanted same given vs)
 
 -- the variables of an operation
 pub same_variables : (s : SchemaTree) (d : DocumentTree) (operation : ℕ) (given : Option JsonTree) → variables_due (blank s) d operation given ≡ variables_due s d operation given
-same_variables s d operation given = same_values s (is_required (blank s) d operation) (is_required s d operation) (same_required s d operation) (given_members given) (variables_of (operation_at d operation))
+same_variables s d operation given =
+    same_values s (is_required (blank s) d operation) (is_required s d operation) (same_required s d operation) (given_members given)
+    (variables_of (operation_at d operation))

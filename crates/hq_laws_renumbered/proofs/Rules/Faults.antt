@@ -22,7 +22,8 @@ use Rattle.hq_laws_renumbered.proofs.Rules.Overlaps.{same_overlap}
 
 -- ---- rules of documents
 
-same_fragment : (s : SchemaTree) (d : DocumentTree) (places : Places) (parts : List PartTree) (g : Graph) → fragment_fault (blank s) d places (map blank_part parts) g ≡ fragment_fault s d places parts g
+same_fragment : (s : SchemaTree) (d : DocumentTree) (places : Places) (parts : List PartTree) (g : Graph)
+    → fragment_fault (blank s) d places (map blank_part parts) g ≡ fragment_fault s d places parts g
 same_fragment s d places parts g =
     rw (
       same_rule rule.KnownTypeNames s d places parts,
@@ -35,11 +36,13 @@ same_fragment s d places parts g =
 same_directive : (s : SchemaTree) (d : DocumentTree) (places : Places) (parts : List PartTree) → directive_fault (blank s) d places (map blank_part parts) ≡ directive_fault s d places parts
 same_directive s d places parts = rw (same_rule rule.KnownDirectives s d places parts, same_rule rule.DirectivesInLocations s d places parts, same_rule rule.UniqueDirectives s d places parts) refl
 
-same_variable : (s : SchemaTree) (d : DocumentTree) (places : Places) (parts : List PartTree) (g : Graph) → variable_fault (blank s) d places (map blank_part parts) g ≡ variable_fault s d places parts g
+same_variable : (s : SchemaTree) (d : DocumentTree) (places : Places) (parts : List PartTree) (g : Graph)
+    → variable_fault (blank s) d places (map blank_part parts) g ≡ variable_fault s d places parts g
 same_variable s d places parts g =
     rw (same_rule rule.VariablesAreInputTypes s d places parts, same_uses parts, same_positions s g (all_uses parts) d) refl
 
-same_document : (s : SchemaTree) (d : DocumentTree) (places : Places) (parts : List PartTree) (g : Graph) → document.fault_by (blank s) d places (map blank_part parts) g ≡ document.fault_by s d places parts g
+same_document : (s : SchemaTree) (d : DocumentTree) (places : Places) (parts : List PartTree) (g : Graph)
+    → document.fault_by (blank s) d places (map blank_part parts) g ≡ document.fault_by s d places parts g
 same_document s d places parts g = rw (same_fragment s d places parts g, same_directive s d places parts, same_variable s d places parts g) refl
 
 pub same_doc_fault : (s : SchemaTree) (d : DocumentTree) → first_doc_fault (blank s) d ≡ first_doc_fault s d
@@ -61,7 +64,13 @@ same_argument s parts =
 
 same_value : (s : SchemaTree) (parts : List PartTree) → value_fault (blank s) (map blank_part parts) ≡ value_fault s parts
 same_value s parts =
-    rw (values.same_rule field_rule.ValuesOfCorrectType s parts, values.same_rule field_rule.KnownInputFields s parts, values.same_rule field_rule.UniqueInputFields s parts, values.same_rule field_rule.RequiredInputFields s parts) refl
+    rw (
+      values.same_rule field_rule.ValuesOfCorrectType s parts,
+      values.same_rule field_rule.KnownInputFields s parts,
+      values.same_rule field_rule.UniqueInputFields s parts,
+      values.same_rule field_rule.RequiredInputFields s parts,
+    )
+    refl
 
 pub same_field_fault : (s : SchemaTree) (d : DocumentTree) → first_field_fault (blank s) d ≡ first_field_fault s d
 same_field_fault s d =

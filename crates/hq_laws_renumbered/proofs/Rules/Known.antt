@@ -97,4 +97,5 @@ placed r = record { ty = r; default_false = false }
 
 pub same_default : (s : SchemaTree) (ty : Option TypeRefTree) → default_place (blank s) ty ≡ default_place s ty
 same_default s ty =
-    and_alike (λ r. cond (is_input_type (blank s) r) (Some (placed r)) None) (λ r. cond (is_input_type s r) (Some (placed r)) None) (λ r. ap (λ b. cond b (Some (placed r)) None) (same_input_type s r)) ty
+    and_alike (λ r. cond (is_input_type (blank s) r) (Some (placed r)) None) (λ r. cond (is_input_type s r) (Some (placed r)) None)
+    (λ r. ap (λ b. cond b (Some (placed r)) None) (same_input_type s r)) ty

@@ -57,7 +57,8 @@ least_alike g h same (x ∷ xs) = rw (same x, least_alike g h same xs) refl
 
 -- ---- options
 
-pub and_map : {A C B D : Type 0} (f : A → C) (h : B → D) (k : C → Option D) (l : A → Option B) → ((x : A) → k (f x) ≡ option_map h (l x)) → (o : Option A) → option_and_then k (option_map f o) ≡ option_map h (option_and_then l o)
+pub and_map : {A C B D : Type 0} (f : A → C) (h : B → D) (k : C → Option D) (l : A → Option B) → ((x : A) → k (f x) ≡ option_map h (l x))
+    → (o : Option A) → option_and_then k (option_map f o) ≡ option_map h (option_and_then l o)
 and_map f h k l same None = refl
 and_map f h k l same (Some x) = same x
 

@@ -66,7 +66,8 @@ blank_argument s args a =
 blank_arguments : (s : SchemaTree) (args : Option (List ArgTree)) (as_ : List ArgumentTree) → arguments_nodes (blank s) (blank_args args) as_ ≡ blank_nodes (arguments_nodes s args as_)
 blank_arguments s args [] = refl
 blank_arguments s args (a ∷ more) =
-    both (argument_nodes (blank s) (blank_args args) a) (arguments_nodes (blank s) (blank_args args) more) (argument_nodes s args a) (arguments_nodes s args more) (blank_argument s args a) (blank_arguments s args more)
+    both (argument_nodes (blank s) (blank_args args) a) (arguments_nodes (blank s) (blank_args args) more) (argument_nodes s args a)
+    (arguments_nodes s args more) (blank_argument s args a) (blank_arguments s args more)
 
 blank_directive : (s : SchemaTree) (l : Location) (d : DirectiveTree) → directive_nodes (blank s) l d ≡ blank_nodes (directive_nodes s l d)
 blank_directive s l d =
@@ -90,7 +91,8 @@ blank_head : (s : SchemaTree) (parent : Option ℕ) (h : FieldHead) → field_he
 blank_head s parent h =
     let args = args_of_field s parent h.name in
     ap (λ a. arguments_nodes (blank s) a h.args ++ directives_nodes (blank s) location.Field h.directives) (blank_args_of s parent h.name)
-    ∙ both (arguments_nodes (blank s) (blank_args args) h.args) (directives_nodes (blank s) location.Field h.directives) (arguments_nodes s args h.args) (directives_nodes s location.Field h.directives)
+    ∙ both (arguments_nodes (blank s) (blank_args args) h.args) (directives_nodes (blank s) location.Field h.directives)
+    (arguments_nodes s args h.args) (directives_nodes s location.Field h.directives)
     (blank_arguments s args h.args) (blank_directives s location.Field h.directives)
 
 blank_inline : (s : SchemaTree) (h : InlineHead) → inline_head_nodes (blank s) h ≡ blank_nodes (inline_head_nodes s h)
@@ -115,7 +117,8 @@ mutual
   blank_selections : (s : SchemaTree) (parent : Option ℕ) (xs : SelectionTrees) → selections_nodes (blank s) parent xs ≡ blank_nodes (selections_nodes s parent xs)
   blank_selections s parent no_selection = refl
   blank_selections s parent (selection x more) =
-      both (selection_nodes (blank s) parent x) (selections_nodes (blank s) parent more) (selection_nodes s parent x) (selections_nodes s parent more) (blank_selection s parent x) (blank_selections s parent more)
+      both (selection_nodes (blank s) parent x) (selections_nodes (blank s) parent more) (selection_nodes s parent x)
+      (selections_nodes s parent more) (blank_selection s parent x) (blank_selections s parent more)
 
 -- ---- definitions
 
@@ -145,13 +148,15 @@ blank_definition s (operation o) =
     let heads = directives_nodes (blank s) l o.directives in
     ap (λ p. own ++ (heads ++ selections_nodes (blank s) p o.selections)) (same_root s o.kind)
     ∙ both own (heads ++ selections_nodes (blank s) root o.selections) (variables_nodes s o.vars) (directives_nodes s l o.directives ++ selections_nodes s root o.selections) (blank_variables s o.vars)
-    (both heads (selections_nodes (blank s) root o.selections) (directives_nodes s l o.directives) (selections_nodes s root o.selections) (blank_directives s l o.directives) (blank_selections s root o.selections))
+    (both heads (selections_nodes (blank s) root o.selections) (directives_nodes s l o.directives) (selections_nodes s root o.selections)
+    (blank_directives s l o.directives) (blank_selections s root o.selections))
 blank_definition s (fragment f) =
     let t = object_named s f.cond.name in
     let heads = directives_nodes (blank s) location.FragmentDefinition f.directives in
     ap (λ p. condition_node f.cond ∷ (heads ++ selections_nodes (blank s) p f.selections)) (same_object_named s f.cond.name)
     ∙ ap (λ l. condition_node f.cond ∷ l)
-    (both heads (selections_nodes (blank s) t f.selections) (directives_nodes s location.FragmentDefinition f.directives) (selections_nodes s t f.selections) (blank_directives s location.FragmentDefinition f.directives) (blank_selections s t f.selections))
+    (both heads (selections_nodes (blank s) t f.selections) (directives_nodes s location.FragmentDefinition f.directives)
+    (selections_nodes s t f.selections) (blank_directives s location.FragmentDefinition f.directives) (blank_selections s t f.selections))
 
 -- a part of a document without the origins of arguments
 abbrev pub blank_part : PartTree → PartTree

@@ -31,7 +31,8 @@ same_target places _ = refl
 
 pub same_graph : (places : Places) (parts : List PartTree) → graph_of places (map blank_part parts) ≡ graph_of places parts
 same_graph places parts =
-    map_twice (λ (p : PartTree). spread_targets places p.nodes) blank_part (λ p. spread_targets places p.nodes) (λ p. filter_map_map (spread_target places) (spread_target places) blank_node (same_target places) p.nodes) parts
+    map_twice (λ (p : PartTree). spread_targets places p.nodes) blank_part (λ p. spread_targets places p.nodes)
+    (λ p. filter_map_map (spread_target places) (spread_target places) blank_node (same_target places) p.nodes) parts
 
 same_spread : (name : List ℕ) (n : NodeTree) → spreads name (blank_node n) ≡ spreads name n
 same_spread name (spread_node x parent) = refl
@@ -39,7 +40,8 @@ same_spread name _ = refl
 
 same_is_spread : (parts : List PartTree) (name : List ℕ) → is_spread (map blank_part parts) name ≡ is_spread parts name
 same_is_spread parts name =
-    any_map (λ (p : PartTree). list_any (spreads name) p.nodes) (λ p. list_any (spreads name) p.nodes) blank_part (λ p. any_map (spreads name) (spreads name) blank_node (same_spread name) p.nodes) parts
+    any_map (λ (p : PartTree). list_any (spreads name) p.nodes) (λ p. list_any (spreads name) p.nodes) blank_part
+    (λ p. any_map (spreads name) (spreads name) blank_node (same_spread name) p.nodes) parts
 
 same_unused : (parts : List PartTree) (x : DefinitionTree) → unused_by (is_spread (map blank_part parts)) x ≡ unused_by (is_spread parts) x
 same_unused parts (operation o) = refl
@@ -59,7 +61,8 @@ same_uses parts = map_twice (λ (p : PartTree). uses_of p.nodes) blank_part (λ 
 
 same_wrong : (s : SchemaTree) (vars : List VarDefTree) (u : UseTree (List ℕ)) → wrong_use (blank s) vars (variable_named vars) u ≡ wrong_use s vars (variable_named vars) u
 same_wrong s vars u =
-    and_alike (λ (v : VarDefTree). at_if (is_wrong_type (resolved (blank s) v.ty) (has_default v.default) u.place) u.at) (λ v. at_if (is_wrong_type (resolved s v.ty) (has_default v.default) u.place) u.at)
+    and_alike (λ (v : VarDefTree). at_if (is_wrong_type (resolved (blank s) v.ty) (has_default v.default) u.place) u.at)
+    (λ v. at_if (is_wrong_type (resolved s v.ty) (has_default v.default) u.place) u.at)
     (λ v. ap (λ ty. at_if (is_wrong_type ty (has_default v.default) u.place) u.at) (same_resolved s v.ty)) (option_and_then (slice_get vars) (variable_named vars u.name))
 
 same_wrong_in : (s : SchemaTree) (all : List (List (UseTree (List ℕ)))) (vars : List VarDefTree) (definitions : List ℕ) → wrong_in (blank s) all vars definitions ≡ wrong_in s all vars definitions

@@ -65,14 +65,16 @@ same_leafs : (s : SchemaTree) (n : NodeTree) → scalar_leafs (blank s) (blank_n
 same_leafs s (field_node h below parent) =
     ap (λ b. at_if b h.at)
     (ap (λ (o : Option FieldTree). option_map_or (λ (f : FieldTree). is_wrong_leaf (is_some (object_at (blank s) (base f.ty))) (has_selections below)) o false) (blank_known s parent h.name)
-    ∙ map_or_same blank_field (λ f. is_wrong_leaf (is_some (object_at (blank s) (base f.ty))) (has_selections below)) (λ f. is_wrong_leaf (is_some (object_at s (base f.ty))) (has_selections below)) false
+    ∙ map_or_same blank_field (λ f. is_wrong_leaf (is_some (object_at (blank s) (base f.ty))) (has_selections below))
+    (λ f. is_wrong_leaf (is_some (object_at s (base f.ty))) (has_selections below)) false
     (λ f. ap (λ o. is_wrong_leaf (is_some o) (has_selections below)) (same_object s (base f.ty))) (known_field s parent h.name))
 same_leafs s _ = refl
 
 same_argument_names : (n : NodeTree) → known_argument_names (blank_node n) ≡ known_argument_names n
 same_argument_names (argument_node a args) =
     ap (λ b. at_if b a.at)
-    (map_or_same (map blank_arg) (λ defs. is_none (arg_in defs a.name)) (λ defs. is_none (arg_in defs a.name)) false (λ defs. ap is_none (blank_arg_in defs a.name) ∙ none_map blank_arg (arg_in defs a.name)) args)
+    (map_or_same (map blank_arg) (λ defs. is_none (arg_in defs a.name)) (λ defs. is_none (arg_in defs a.name)) false
+    (λ defs. ap is_none (blank_arg_in defs a.name) ∙ none_map blank_arg (arg_in defs a.name)) args)
 same_argument_names _ = refl
 
 same_lacks : (given : List ArgumentTree) (defs : List ArgTree) → lacks_any given (map blank_arg defs) ≡ lacks_any given defs
@@ -99,7 +101,8 @@ same_values s _ = refl
 same_input_fields : (s : SchemaTree) (n : NodeTree) → known_input_fields (blank s) (blank_node n) ≡ known_input_fields s n
 same_input_fields s (member_node m input) =
     ap (λ b. at_if b m.at)
-    (map_or_alike (λ t. is_none (input_field_of (blank s) t m.name)) (λ t. is_none (input_field_of s t m.name)) false (λ t. ap is_none (blank_input_of s t m.name) ∙ none_map blank_arg (input_field_of s t m.name)) input)
+    (map_or_alike (λ t. is_none (input_field_of (blank s) t m.name)) (λ t. is_none (input_field_of s t m.name)) false
+    (λ t. ap is_none (blank_input_of s t m.name) ∙ none_map blank_arg (input_field_of s t m.name)) input)
 same_input_fields s _ = refl
 
 blank_inputs : (o : Option TypeTree) → inputs_in (option_map blank_type o) ≡ map blank_arg (inputs_in o)
@@ -132,4 +135,5 @@ same_node rule.RequiredInputFields s n = same_required s n
 -- a rule over a document
 pub same_rule : (r : NodeRule) (s : SchemaTree) (parts : List PartTree) → rule_place r (blank s) (map blank_part parts) ≡ rule_place r s parts
 same_rule r s parts =
-    least_map (λ (p : PartTree). least_of (node_place r (blank s)) p.nodes) (λ p. least_of (node_place r s) p.nodes) blank_part (λ p. least_map (node_place r (blank s)) (node_place r s) blank_node (same_node r s) p.nodes) parts
+    least_map (λ (p : PartTree). least_of (node_place r (blank s)) p.nodes) (λ p. least_of (node_place r s) p.nodes) blank_part
+    (λ p. least_map (node_place r (blank s)) (node_place r s) blank_node (same_node r s) p.nodes) parts

@@ -316,7 +316,9 @@ module _ (tables : List Table) (m : MetaTree) (metadata_fits : fits tables m ≡
       unfolding list_args
       distinct_lawful sorts = then_lawful (matched sorts) (and_then (ordered c u) (distinct_columns c (given_named c (list_args first) xs (codes "distinct_on"))))
           (then_lawful (ordered c u) (distinct_columns c (given_named c (list_args first) xs (codes "distinct_on")))
-          (by (given_named c (list_args first) xs (codes "distinct_on")) refl) (λ cs e. ordered_lawful tables m metadata_fits role schemed shaped vars u cs)) (λ cs e. matched_lawful tables m metadata_fits role schemed shaped vars sorts cs)
+          (by (given_named c (list_args first) xs (codes "distinct_on")) refl)
+          (λ cs e. ordered_lawful tables m metadata_fits role schemed shaped vars u cs))
+          (λ cs e. matched_lawful tables m metadata_fits role schemed shaped vars sorts cs)
         where
           of_arg : (x : ArgTree) (j : JsonTree) → x ≡ arg (codes "distinct_on") (items (part first Columns)) stands.DistinctOn → coercion.is_null j ≡ false → IsOf R x.ty j
               → Lawful (by_distinct c j (base x.ty) x.origin)
@@ -358,7 +360,8 @@ module _ (tables : List Table) (m : MetaTree) (metadata_fits : fits tables m ≡
 
     -- ---- count
 
-    count_here : (u first : ℕ) → Each (ArgFits types (count_target u)) (count_args first) → Each FineHere (arguments_nodes R (Some (count_args first)) xs) → Lawful (count_due c (count_args first) xs u)
+    count_here : (u first : ℕ) → Each (ArgFits types (count_target u)) (count_args first)
+        → Each FineHere (arguments_nodes R (Some (count_args first)) xs) → Lawful (count_due c (count_args first) xs u)
     unfolding count_args
     count_here u first fit nodes =
         then_lawful _ (counted_due c (given_named c (count_args first) xs (codes "columns"))) (by (given_named c (count_args first) xs (codes "columns")) refl) (λ column _.

@@ -165,7 +165,9 @@ module _ (tables : List Table) (m : MetaTree) (role : Role) where
   -- ---- types of tables
 
   columns_shaped : (scalars : List (List ℕ)) (p : Part) (cs : List ShownColumn) → Each FieldShape (column_fields scalars p cs)
-  columns_shaped scalars p cs = each_filter_map FieldShape (λ (c : ShownColumn). Unit {0}) (column_field scalars p) (λ c u. by c (column_type scalars p c)) cs (each_all (λ (c : ShownColumn). Unit {0}) (λ c. tt) cs)
+  columns_shaped scalars p cs =
+      each_filter_map FieldShape (λ (c : ShownColumn). Unit {0}) (column_field scalars p) (λ c u. by c (column_type scalars p c)) cs
+      (each_all (λ (c : ShownColumn). Unit {0}) (λ c. tt) cs)
     where
       by : (c : ShownColumn) (o : Option TypeRefTree) → IfSome (option_map (λ r. plain_field c.name r (field.Column c.col)) o) FieldShape
       by c None = tt
@@ -213,7 +215,9 @@ module _ (tables : List Table) (m : MetaTree) (role : Role) where
 
   plain_inputs : (p : Part) (cs : List ShownColumn) (ls : List Link) → Each (λ (a : ArgTree). a.default_false ≡ false) (inputs_of p cs ls)
   plain_inputs p cs ls = each_append (λ (a : ArgTree). a.default_false ≡ false) (filter_map (column_input p) cs) (filter_map (link_input p) ls)
-      (each_filter_map (λ (a : ArgTree). a.default_false ≡ false) (λ (c : ShownColumn). Unit {0}) (column_input p) (λ c u. by c (is_filter p || is_ordered c.ty)) cs (each_all (λ (c : ShownColumn). Unit {0}) (λ c. tt) cs)) (plain_links p ls)
+      (each_filter_map (λ (a : ArgTree). a.default_false ≡ false) (λ (c : ShownColumn). Unit {0}) (column_input p)
+      (λ c u. by c (is_filter p || is_ordered c.ty)) cs (each_all (λ (c : ShownColumn). Unit {0}) (λ c. tt) cs))
+      (plain_links p ls)
     where
       by : (c : ShownColumn) (b : Bool) → IfSome (cond b (Some (arg c.name (fixed (input_type p c.ty)) (stands.Column c.col))) None) (λ (a : ArgTree). a.default_false ≡ false)
       by c true = refl
@@ -235,7 +239,9 @@ module _ (tables : List Table) (m : MetaTree) (role : Role) where
 
   sort_shaped : (t : ℕ) (cs : List ShownColumn) (ls : List Link) → Each (InputIs (type.Sort t)) (inputs_of Sort cs ls)
   sort_shaped t cs ls = each_append (InputIs (type.Sort t)) (filter_map (column_input Sort) cs) (filter_map (link_input Sort) ls)
-      (each_filter_map (InputIs (type.Sort t)) (λ (c : ShownColumn). Unit {0}) (column_input Sort) (λ c u. by c (is_ordered c.ty)) cs (each_all (λ (c : ShownColumn). Unit {0}) (λ c. tt) cs)) (links_shaped (type.Sort t) Sort (λ l. refl) ls)
+      (each_filter_map (InputIs (type.Sort t)) (λ (c : ShownColumn). Unit {0}) (column_input Sort) (λ c u. by c (is_ordered c.ty)) cs
+      (each_all (λ (c : ShownColumn). Unit {0}) (λ c. tt) cs))
+      (links_shaped (type.Sort t) Sort (λ l. refl) ls)
     where
       by : (c : ShownColumn) (b : Bool) → IfSome (cond (false || b) (Some (arg c.name (fixed OrderBy) (stands.Column c.col))) None) (InputIs (type.Sort t))
       by c true = refl

@@ -65,7 +65,10 @@ module _ (read : List ℕ → Result Val Want) (holds : Operand → Bool) (given
       let two = mapped_ok (λ bs. one.0 ∷ bs) (bound_each read vars os) ps one.2 in
       let here = operand_bound o one.0 parts.0 one.1 in
       let later = operands_bound os two.0 parts.1 two.1 in
-      subst (λ l. (list_all holds l ≡ true) × (list_all is_constant l ≡ true)) two.2 (and_from (holds one.0) (list_all holds two.0) here.0 later.0, and_from (is_constant one.0) (list_all is_constant two.0) here.1 later.1)
+      subst (λ l. (list_all holds l ≡ true) × (list_all is_constant l ≡ true)) two.2 (
+        and_from (holds one.0) (list_all holds two.0) here.0 later.0,
+        and_from (is_constant one.0) (list_all is_constant two.0) here.1 later.1,
+      )
 
 -- what is bound of operands is as many
 bound_length : (read : List ℕ → Result Val Want) (vars : List Var) (os ps : List Operand) → bound_each read vars os ≡ Ok ps → length ps ≡ length os
@@ -81,7 +84,8 @@ bound_length read vars (o ∷ os) ps e =
 abbrev TestBound : Test → Ty → Operands → Type 0
 TestBound t ty vs = (is_test t vs ty ≡ true) × (list_all is_constant (operands_of vs) ≡ true)
 
-list_test : (t : Test) (ty : Ty) (vs : List Operand) → takes t (length vs) ≡ true → applies t ty ≡ true → (list_all (operand_fits t ty) vs ≡ true) × (list_all is_constant vs ≡ true) → TestBound t ty (operands.List vs)
+list_test : (t : Test) (ty : Ty) (vs : List Operand) → takes t (length vs) ≡ true → applies t ty ≡ true
+    → (list_all (operand_fits t ty) vs ≡ true) × (list_all is_constant vs ≡ true) → TestBound t ty (operands.List vs)
 list_test t ty vs counted of_type_is f =
     (and_from (takes t (length vs) && applies t ty) (list_all (operand_fits t ty) vs) (and_from (takes t (length vs)) (applies t ty) counted of_type_is) f.0, f.1)
 
@@ -92,7 +96,8 @@ list_taken One n h = absurd (false≢true h)
 list_taken Many n h = refl
 
 -- constants that are read of elements fit the test
-values_fit : (t : Test) (ty : Ty) (es : List (List ℕ)) (vs : List Val) → element_values t ty es ≡ Some vs → (list_all (operand_fits t ty) (map Const vs) ≡ true) × (list_all is_constant (map Const vs) ≡ true)
+values_fit : (t : Test) (ty : Ty) (es : List (List ℕ)) (vs : List Val) → element_values t ty es ≡ Some vs
+    → (list_all (operand_fits t ty) (map Const vs) ≡ true) × (list_all is_constant (map Const vs) ≡ true)
 values_fit t ty [] vs e = let same : [] ≡ vs = cc in subst (λ l. (list_all (operand_fits t ty) (map Const l) ≡ true) × (list_all is_constant (map Const l) ≡ true)) same (refl, refl)
 values_fit t ty (x ∷ es) vs e = by (element_value t ty x) (element_values t ty es) refl (λ more f. values_fit t ty es more f) e
   where
@@ -104,7 +109,10 @@ values_fit t ty (x ∷ es) vs e = by (element_value t ty x) (element_values t ty
         read (Ok w) is g = let same : w ≡ v = cc in subst (λ z. test_fits t ty z ≡ true) same (reads_fit t ty text w is)
         read (Err w) is g = cc
 
-    by : (o : Option Val) (rest : Option (List Val)) → element_value t ty x ≡ o → ((more : List Val) → rest ≡ Some more → (list_all (operand_fits t ty) (map Const more) ≡ true) × (list_all is_constant (map Const more) ≡ true))
+    by : (o : Option Val) (rest : Option (List Val)) → element_value t ty x ≡ o
+        →
+        ((more : List Val) → rest ≡ Some more
+        → (list_all (operand_fits t ty) (map Const more) ≡ true) × (list_all is_constant (map Const more) ≡ true))
         → option_and_then (λ v. option_map (λ ws. v ∷ ws) rest) o ≡ Some vs → (list_all (operand_fits t ty) (map Const vs) ≡ true) × (list_all is_constant (map Const vs) ≡ true)
     by None rest is later f = cc
     by (Some v) None is later f = cc
@@ -115,15 +123,19 @@ values_fit t ty (x ∷ es) vs e = by (element_value t ty x) (element_values t ty
         (and_from (test_fits t ty v) (list_all (operand_fits t ty) (map Const more)) (one_fits (result_ok (text_of x)) v is) tail.0, tail.1)
 
 -- what a variable lists
-list_bound : (t : Test) (ty : Ty) (name : List ℕ) (o : Option (List ℕ)) (ps : List Operand) → constants_of t ty name o ≡ Ok ps → (list_all (operand_fits t ty) ps ≡ true) × (list_all is_constant ps ≡ true)
+list_bound : (t : Test) (ty : Ty) (name : List ℕ) (o : Option (List ℕ)) (ps : List Operand) → constants_of t ty name o ≡ Ok ps
+    → (list_all (operand_fits t ty) ps ≡ true) × (list_all is_constant ps ≡ true)
 list_bound t ty name None ps e = cc
 list_bound t ty name (Some text) ps e = by (elements_of text) refl e
   where
-    with_values : (es : List (List ℕ)) (o : Option (List Val)) → element_values t ty es ≡ o → constants name (list_want ty) o ≡ Ok ps → (list_all (operand_fits t ty) ps ≡ true) × (list_all is_constant ps ≡ true)
+    with_values : (es : List (List ℕ)) (o : Option (List Val)) → element_values t ty es ≡ o → constants name (list_want ty) o ≡ Ok ps
+        → (list_all (operand_fits t ty) ps ≡ true) × (list_all is_constant ps ≡ true)
     with_values es None is f = cc
     with_values es (Some vs) is f = let same : map Const vs ≡ ps = cc in subst (λ l. (list_all (operand_fits t ty) l ≡ true) × (list_all is_constant l ≡ true)) same (values_fit t ty es vs is)
 
-    by : (o : Option (List (List ℕ))) → elements_of text ≡ o → constants name (list_want ty) (option_and_then (element_values t ty) o) ≡ Ok ps → (list_all (operand_fits t ty) ps ≡ true) × (list_all is_constant ps ≡ true)
+    by : (o : Option (List (List ℕ))) → elements_of text ≡ o
+        → constants name (list_want ty) (option_and_then (element_values t ty) o) ≡ Ok ps
+        → (list_all (operand_fits t ty) ps ≡ true) × (list_all is_constant ps ≡ true)
     by None is f = cc
     by (Some es) is f = with_values es (element_values t ty es) refl f
 
@@ -159,7 +171,8 @@ module _ (s : Schema) (vars : List Var) where
   column_is : (t k : ℕ) (holds : Ty → Bool) → of_type holds (column_ty s t k) ≡ true → (column_ty s t k ≡ Some (column s t k).ty) × (holds (column s t k).ty ≡ true)
   column_is t k holds h = by (slice_get (table s t).columns k) refl h
     where
-      by : (o : Option Column) → slice_get (table s t).columns k ≡ o → of_type holds (option_map (λ (d : Column). d.ty) o) ≡ true → (column_ty s t k ≡ Some (column s t k).ty) × (holds (column s t k).ty ≡ true)
+      by : (o : Option Column) → slice_get (table s t).columns k ≡ o → of_type holds (option_map (λ (d : Column). d.ty) o) ≡ true
+          → (column_ty s t k ≡ Some (column s t k).ty) × (holds (column s t k).ty ≡ true)
       by None is h = cc
       by (Some d) is h =
           let same : column s t k ≡ d = get_or_from_slice_get (table s t).columns k d no_column is in

@@ -73,7 +73,8 @@ fitting_ok j None x e = cc
 abbrev OperandFits : Test → Ty → Operand → Type 0
 OperandFits t ty o = (operand_fits t ty o ≡ true) × (is_constant o ≡ true)
 
-constant_due-fits : (t : Test) (ty : Ty) → ((v : Val) → constant_fits ty v ≡ true → test_fits t ty v ≡ true) → (j : JsonTree) (o : Operand) → fitting j (option_map Const (constant_in ty j)) ≡ Ok o → OperandFits t ty o
+constant_due-fits : (t : Test) (ty : Ty) → ((v : Val) → constant_fits ty v ≡ true → test_fits t ty v ≡ true) → (j : JsonTree) (o : Operand)
+    → fitting j (option_map Const (constant_in ty j)) ≡ Ok o → OperandFits t ty o
 constant_due-fits t ty each_fits j o e =
     let found = map_some Const (constant_in ty j) o (fitting_ok j (option_map Const (constant_in ty j)) o e) in
     subst (OperandFits t ty) found.2 (each_fits found.0 (constant_read ty j found.0 found.1), refl)
@@ -166,12 +167,16 @@ module _ (tables : List Table) (m : MetaTree) (metadata_fits : fits tables m ≡
     allowed = column_allowed tables m metadata_fits role t k permitted
 
     -- a test of the column, of as many operands as it takes, which fit
-    test_writes : (o : Operator) → applies o.test ty ≡ true → (vs : List Operand) (negated : Bool) → takes o.test (length vs) ≡ true → Each (OperandFits o.test ty) vs → Writes t 1 (test k o.test (operands.List vs) negated)
+    test_writes : (o : Operator) → applies o.test ty ≡ true → (vs : List Operand) (negated : Bool) → takes o.test (length vs) ≡ true
+        → Each (OperandFits o.test ty) vs → Writes t 1 (test k o.test (operands.List vs) negated)
     test_writes o of_type_is vs negated counted h =
         let f = operands_all o.test ty vs h in
         record {
           uses = allowed;
-          fit = ap (of_type (is_test o.test (operands.List vs))) typed ∙ and_from (takes o.test (length vs) && applies o.test ty) (list_all (operand_fits o.test ty) vs) (and_from (takes o.test (length vs)) (applies o.test ty) counted of_type_is) f.0;
+          fit =
+              ap (of_type (is_test o.test (operands.List vs))) typed
+              ∙ and_from (takes o.test (length vs) && applies o.test ty) (list_all (operand_fits o.test ty) vs)
+              (and_from (takes o.test (length vs)) (applies o.test ty) counted of_type_is) f.0;
           bound = f.1;
           deep = omega arith;
         }
@@ -185,7 +190,9 @@ module _ (tables : List Table) (m : MetaTree) (metadata_fits : fits tables m ≡
         subst (Writes t 1) one.2 (test_writes o of_type_is (one.0 ∷ []) o.negated (ap (λ n. has_arity n 1) is) (operand_read o.test ty j one.0 one.1, tt))
     tested_writes o of_type_is j Many is b e =
         let one = mapped_ok (λ vs. test k o.test (operands.List vs) o.negated) (each (operand_due o.test ty) (items_in j)) b e in
-        subst (Writes t 1) one.2 (test_writes o of_type_is one.0 o.negated (ap (λ n. has_arity n (length one.0)) is) (each_ok (operand_due o.test ty) (OperandFits o.test ty) (operand_read o.test ty) (items_in j) one.0 one.1))
+        subst (Writes t 1) one.2
+        (test_writes o of_type_is one.0 o.negated (ap (λ n. has_arity n (length one.0)) is)
+        (each_ok (operand_due o.test ty) (OperandFits o.test ty) (operand_read o.test ty) (items_in j) one.0 one.1))
 
     operator_writes : (o : Operator) (j : JsonTree) (b : BexpTree) → operator_due k ty o j ≡ Ok b → Writes t 1 b
     operator_writes o j b e =
@@ -284,7 +291,9 @@ module _ (tables : List Table) (m : MetaTree) (metadata_fits : fits tables m ≡
     filter_writes (arr js) p t at b e = cc
     filter_writes (obj ms) p t at b e =
         let one = mapped_ok conjunction (members_due ms c p t) b e in
-        deeper t (suc (suc (2 * members_nest ms))) (2 * suc (members_nest ms)) b (omega arith) (subst (Writes t (suc (suc (2 * members_nest ms)))) one.2 (conjunction_writes t (suc (2 * members_nest ms)) one.0 (members_write ms p t at one.0 one.1)))
+        deeper t (suc (suc (2 * members_nest ms))) (2 * suc (members_nest ms)) b (omega arith)
+        (subst (Writes t (suc (suc (2 * members_nest ms)))) one.2
+        (conjunction_writes t (suc (2 * members_nest ms)) one.0 (members_write ms p t at one.0 one.1)))
 
     filters_write : (j : JsonTree) (p t : ℕ) → At types p (type.Filter t) → (bs : List BexpTree) → filters_due j c p t ≡ Ok bs → Each (Writes t (2 * objects_nest j)) bs
     filters_write null p t at bs e = cc

@@ -54,7 +54,8 @@ find_past p (y ∷ front) xs h = let parts = or_parts (p y) (list_any p front) h
 abbrev IsNew : List TrackedTree → TrackedTree → Type 0
 IsNew front k = list_any (λ (j : TrackedTree). j.table == k.table) front ≡ false
 
-new_more : (front : List TrackedTree) (k : TrackedTree) (ks : List TrackedTree) → Each (IsNew front) ks → list_any (λ (x : TrackedTree). k.table == x.table) ks ≡ false → Each (IsNew (front ++ k ∷ [])) ks
+new_more : (front : List TrackedTree) (k : TrackedTree) (ks : List TrackedTree) → Each (IsNew front) ks
+    → list_any (λ (x : TrackedTree). k.table == x.table) ks ≡ false → Each (IsNew (front ++ k ∷ [])) ks
 new_more front k [] h g = tt
 new_more front k (x ∷ ks) h g =
     let p : TrackedTree → Bool = λ (j : TrackedTree). j.table == x.table in
@@ -62,7 +63,8 @@ new_more front k (x ∷ ks) h g =
     let here : list_any p (front ++ k ∷ []) ≡ false = list_any-append p front (k ∷ []) ∙ (rw (h.0, other.0) refl) in
     (here, new_more front k ks h.1 other.1)
 
-firsts_are : (front ks : List TrackedTree) → all_differ (λ (j k : TrackedTree). j.table == k.table) ks ≡ true → Each (IsNew front) ks → Each (λ (k : TrackedTree). find (λ (j : TrackedTree). j.table == k.table) (front ++ ks) ≡ Some k) ks
+firsts_are : (front ks : List TrackedTree) → all_differ (λ (j k : TrackedTree). j.table == k.table) ks ≡ true → Each (IsNew front) ks
+    → Each (λ (k : TrackedTree). find (λ (j : TrackedTree). j.table == k.table) (front ++ ks) ≡ Some k) ks
 firsts_are front [] differ new = tt
 firsts_are front (k ∷ ks) differ new =
     let p : TrackedTree → Bool = λ (j : TrackedTree). j.table == k.table in
@@ -102,7 +104,8 @@ module _ (tables : List Table) (m : MetaTree) (role : Role) where
       typed ms t here c (Some d) (Some n) at =
           ap (λ u. option_map (λ (d : Column). d.ty) (slice_get u.columns c)) (table_present tables m k.table t here) ∙ ap (option_map (λ (d : Column). d.ty)) at
 
-      by : (t : Option Table) (p : Option Permission) → slice_get tables k.table ≡ t → permission role m k.table ≡ p → IfSome (option_and_then (λ (t : Table). option_map (shown_table k t) p) t) IsShown
+      by : (t : Option Table) (p : Option Permission) → slice_get tables k.table ≡ t → permission role m k.table ≡ p
+          → IfSome (option_and_then (λ (t : Table). option_map (shown_table k t) p) t) IsShown
       by None p here granted = tt
       by (Some t) None here granted = tt
       by (Some t) (Some p) here granted = record {
@@ -175,14 +178,19 @@ module _ (tables : List Table) (m : MetaTree) (role : Role) where
   fixed_stands ps QueryRoot = record { is_seen = tt; name = refl; taken = plain (fixed_fields ps QueryRoot) }
 
   -- columns that have a field in a part pass its test
-  tested : (scalars : List (List ℕ)) (test : Ty → Bool) (p : Part) (t : ℕ) → ((c : ShownColumn) → column_ty s t c.col ≡ Some c.ty → IfSome (column_field scalars p c) (λ (f : FieldTree). ColumnIs test t f.origin))
+  tested : (scalars : List (List ℕ)) (test : Ty → Bool) (p : Part) (t : ℕ)
+      →
+      ((c : ShownColumn) → column_ty s t c.col ≡ Some c.ty → IfSome (column_field scalars p c) (λ (f : FieldTree). ColumnIs test t f.origin))
       → (cs : List ShownColumn) → Each (λ (c : ShownColumn). column_ty s t c.col ≡ Some c.ty) cs → Each (λ (f : FieldTree). ColumnIs test t f.origin) (column_fields scalars p cs)
   tested scalars test p t step cs h = each_filter_map (λ (f : FieldTree). ColumnIs test t f.origin) (λ (c : ShownColumn). column_ty s t c.col ≡ Some c.ty) (column_field scalars p) step cs h
 
-  aggregate_tested : (scalars : List (List ℕ)) (g : OneAggregate) (t : ℕ) (c : ShownColumn) → column_ty s t c.col ≡ Some c.ty → IfSome (column_field scalars (Aggregated g) c) (λ (f : FieldTree). ColumnIs (is_aggregate_of g) t f.origin)
+  aggregate_tested : (scalars : List (List ℕ)) (g : OneAggregate) (t : ℕ) (c : ShownColumn) → column_ty s t c.col ≡ Some c.ty
+      → IfSome (column_field scalars (Aggregated g) c) (λ (f : FieldTree). ColumnIs (is_aggregate_of g) t f.origin)
   aggregate_tested scalars g t c typed = by (has_aggregate g c) refl
     where
-      by : (b : Bool) → has_aggregate g c ≡ b → IfSome (option_map (λ r. plain_field c.name r (field.Column c.col)) (cond b (Some (fixed (Scalar (given_type g c.ty)))) None)) (λ (f : FieldTree). ColumnIs (is_aggregate_of g) t f.origin)
+      by : (b : Bool) → has_aggregate g c ≡ b
+          → IfSome (option_map (λ r. plain_field c.name r (field.Column c.col)) (cond b (Some (fixed (Scalar (given_type g c.ty)))) None))
+          (λ (f : FieldTree). ColumnIs (is_aggregate_of g) t f.origin)
       by true e = ap (of_type (is_aggregate_of g)) typed ∙ e
       by false e = tt
 
@@ -192,9 +200,25 @@ module _ (tables : List Table) (m : MetaTree) (role : Role) where
   part_stands scalars p ls shown Filter = record { is_seen = shown.is_seen; name = tt; taken = plain (part_fields scalars p.first p.shown.columns ls Filter) }
   part_stands scalars p ls shown Sort = record { is_seen = shown.is_seen; name = tt; taken = plain (part_fields scalars p.first p.shown.columns ls Sort) }
   part_stands scalars p ls shown Columns = record { is_seen = tt; name = tt; taken = plain (part_fields scalars p.first p.shown.columns ls Columns) }
-  part_stands scalars p ls shown Aggregate = record { is_seen = shown.is_seen; name = ap (λ n. n ++ codes "_aggregate") shown.name; taken = plain (part_fields scalars p.first p.shown.columns ls Aggregate) }
-  part_stands scalars p ls shown AggregateFields = record { is_seen = tt; name = ap (λ n. n ++ codes "_aggregate_fields") shown.name; taken = plain (part_fields scalars p.first p.shown.columns ls AggregateFields) }
-  part_stands scalars p ls shown (Aggregated g) = record { is_seen = tt; name = ap (λ n. n ++ aggregate_suffix g) shown.name; taken = tested scalars (is_aggregate_of g) (Aggregated g) p.shown.table (aggregate_tested scalars g p.shown.table) p.shown.columns shown.columns }
+  part_stands scalars p ls shown Aggregate =
+      record {
+        is_seen = shown.is_seen;
+        name = ap (λ n. n ++ codes "_aggregate") shown.name;
+        taken = plain (part_fields scalars p.first p.shown.columns ls Aggregate);
+      }
+  part_stands scalars p ls shown AggregateFields =
+      record {
+        is_seen = tt;
+        name = ap (λ n. n ++ codes "_aggregate_fields") shown.name;
+        taken = plain (part_fields scalars p.first p.shown.columns ls AggregateFields);
+      }
+  part_stands scalars p ls shown (Aggregated g) =
+      record {
+        is_seen = tt;
+        name = ap (λ n. n ++ aggregate_suffix g) shown.name;
+        taken = tested scalars (is_aggregate_of g) (Aggregated g) p.shown.table (aggregate_tested scalars g p.shown.table)
+            p.shown.columns shown.columns;
+      }
 
   scalar_stands : (name : List ℕ) → Stands (scalar_type name)
   unfolding scalar_type

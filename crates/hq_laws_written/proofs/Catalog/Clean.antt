@@ -83,7 +83,9 @@ names_clean columns (k ∷ ks) h = and_from _ _ (name_clean columns k h) (names_
 
 -- the members of a column, with its type of PostgreSQL or without
 abbrev members_of : Column → Bool → List (List ℕ × JsonTree)
-members_of c b = (field_name field.Name, str c.name) ∷ (field_name field.ColumnType, str (catalog_name c.ty)) ∷ (cond b ((field_name field.Of, str c.of) ∷ []) [] ++ (field_name field.Nullable, bool c.nullable) ∷ [])
+members_of c b =
+    (field_name field.Name, str c.name) ∷ (field_name field.ColumnType, str (catalog_name c.ty))
+    ∷ (cond b ((field_name field.Of, str c.of) ∷ []) [] ++ (field_name field.Nullable, bool c.nullable) ∷ [])
 
 column_readable : (c : Column) → is_clean_column c ≡ true → Readable 1 (column_json c)
 column_readable c h = by (has_of c)
@@ -92,7 +94,11 @@ column_readable c h = by (has_of c)
     p = and_parts (is_clean c.name) (is_clean c.of) h
 
     by : (b : Bool) → Readable 1 (object (members_of c b))
-    by true = object_readable 0 (members_of c true) opaque_names (text_readable 0 c.name p.0, (text_readable 0 (catalog_name c.ty) (clean_type c.ty), (text_readable 0 c.of p.1, (bool_readable 0 c.nullable, tt))))
+    by true =
+        object_readable 0 (members_of c true) opaque_names (
+          text_readable 0 c.name p.0,
+          (text_readable 0 (catalog_name c.ty) (clean_type c.ty), (text_readable 0 c.of p.1, (bool_readable 0 c.nullable, tt))),
+        )
     by false = object_readable 0 (members_of c false) column_names (text_readable 0 c.name p.0, (text_readable 0 (catalog_name c.ty) (clean_type c.ty), (bool_readable 0 c.nullable, tt)))
 
 columns_readable : (columns : List Column) → CleanColumns columns → Each (λ c. Readable 1 (column_json c)) columns
@@ -147,4 +153,7 @@ tables_readable tables (t ∷ ts) all h = let p = and_parts _ _ h in (table_read
 
 -- a catalog of clean names can be read back
 pub catalog_readable : (tables : List Table) → has_clean_names tables ≡ true → IsReadable (catalog_json tables)
-catalog_readable tables h = readable 6 (catalog_json tables) (omega arith) (object_readable 5 (catalog_members tables) top_names (map_readable 4 (table_json tables) tables (tables_readable tables tables h h), tt))
+catalog_readable tables h =
+    readable 6 (catalog_json tables) (omega arith)
+    (object_readable 5 (catalog_members tables) top_names
+    (map_readable 4 (table_json tables) tables (tables_readable tables tables h h), tt))

@@ -91,8 +91,11 @@ settled_same columns key k c h keyed at =
     ap (λ (b : Bool). record c { nullable = b }) (go among refl)
 
 -- a column that the key names is as nullable as before
-pub settled_all : (columns : List Column) (key : List ℕ) → differ columns ≡ true → list_all (λ p. is_key_column (slice_get columns p)) key ≡ true → map (settled (map (name_at columns) key)) columns ≡ columns
-settled_all columns key h keyed = map_each (settled (map (name_at columns) key)) columns (each_at (λ c. settled (map (name_at columns) key) c ≡ c) columns (λ k c at. settled_same columns key k c h keyed at))
+pub settled_all : (columns : List Column) (key : List ℕ) → differ columns ≡ true
+    → list_all (λ p. is_key_column (slice_get columns p)) key ≡ true → map (settled (map (name_at columns) key)) columns ≡ columns
+settled_all columns key h keyed =
+    map_each (settled (map (name_at columns) key)) columns
+    (each_at (λ c. settled (map (name_at columns) key) c ≡ c) columns (λ k c at. settled_same columns key k c h keyed at))
 
 -- ---- pairs of columns
 

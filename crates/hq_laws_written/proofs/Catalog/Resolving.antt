@@ -33,13 +33,17 @@ use Rattle.hq_laws_written.proofs.Catalog.Tests.{IsGood}
 -- names of columns that are there are read as their places
 columns_named : (columns : List Column) (path : List ℕ) (ks : List ℕ) → differ columns ≡ true → Each (IsPlace columns) ks → each (column_named columns) path (map (name_at columns) ks) ≡ Ok ks
 columns_named columns path ks h there =
-    each_back (column_named columns) (name_at columns) (λ k. k) path 0 ks (each_weaken (IsPlace columns) (λ k. (p : List ℕ) → column_named columns p (name_at columns k) ≡ Ok k) (λ k is p. named_place columns k p h is) ks there)
+    each_back (column_named columns) (name_at columns) (λ k. k) path 0 ks
+    (each_weaken (IsPlace columns) (λ k. (p : List ℕ) → column_named columns p (name_at columns k) ≡ Ok k)
+    (λ k is p. named_place columns k p h is) ks there)
     ∙ ap Ok (itself ks)
 
 -- so are those of a key
 keys_named : (columns : List Column) (path : List ℕ) (ks : List ℕ) → differ columns ≡ true → Each (IsKeyPlace columns) ks → each (key_column_named columns) path (map (name_at columns) ks) ≡ Ok ks
 keys_named columns path ks h there =
-    each_back (key_column_named columns) (name_at columns) (λ k. k) path 0 ks (each_weaken (IsKeyPlace columns) (λ k. (p : List ℕ) → key_column_named columns p (name_at columns k) ≡ Ok k) (λ k is p. named_key columns k p h is) ks there)
+    each_back (key_column_named columns) (name_at columns) (λ k. k) path 0 ks
+    (each_weaken (IsKeyPlace columns) (λ k. (p : List ℕ) → key_column_named columns p (name_at columns k) ≡ Ok k)
+    (λ k is p. named_key columns k p h is) ks there)
     ∙ ap Ok (itself ks)
 
 -- ---- tables
@@ -64,7 +68,8 @@ tables_differ tables h =
     ∙ differ_weaken (λ (t u : Table). bytes_eq t.schema u.schema && bytes_eq t.name u.name) (λ t u. bytes_eq (catalog.full_name t) (catalog.full_name u)) one_name tables h
 
 -- a table of the catalog is found under its schema and name
-table_back : (tables : List Table) (k : ℕ) (u : Table) (path : List ℕ) (key : WrittenForeignKey) → all_differ (λ t v. bytes_eq (catalog.full_name t) (catalog.full_name v)) tables ≡ true → slice_get tables k ≡ Some u
+table_back : (tables : List Table) (k : ℕ) (u : Table) (path : List ℕ) (key : WrittenForeignKey)
+    → all_differ (λ t v. bytes_eq (catalog.full_name t) (catalog.full_name v)) tables ≡ true → slice_get tables k ≡ Some u
     → key.schema ≡ u.schema → key.table ≡ u.name → table_named (map (written tables) tables) path key ≡ Ok k
 unfolding table_named
 table_back tables k u path key h at schema name =
@@ -97,7 +102,11 @@ foreign_back tables t f path h all g is =
     let names : key.references ≡ map (name_at u.columns) f.references = ap (λ o. map (name_at (columns_in o)) f.references) remote.1 in
     let others : each (column_named (columns_at ws f.remote)) (at path field.References) key.references ≡ Ok f.references =
     rw (there, names) (columns_named u.columns (at path field.References) f.references (all f.remote u remote.1).differ (remote_places t u f.columns f.references remote.2)) in
-    let fit : (nat_lt 0 (length f.columns) && length f.columns == length f.references && list_all (λ q. can_pair (type_of (slice_get t.columns q.0)) (type_of (slice_get (columns_at ws f.remote) q.1))) (zip f.columns f.references)) ≡ true =
+    let fit :
+    (nat_lt 0 (length f.columns) && length f.columns == length f.references
+    && list_all (λ q. can_pair (type_of (slice_get t.columns q.0)) (type_of (slice_get (columns_at ws f.remote) q.1)))
+    (zip f.columns f.references))
+    ≡ true =
     rw there (and_from _ _ (and_from _ _ p.0 (eq-eqb _ _ (as_many t u f.columns f.references remote.2))) (zipped t u f.columns f.references remote.2)) in
     rw (own, table, others, fit) refl
 
@@ -119,7 +128,9 @@ unfolding table_of
 whole_table tables t path h all g =
     let key = keys_named t.columns (at path field.PrimaryKey) t.key g.differ (key_places t.columns t.key g.no_null) in
     let foreign : each (foreign_key_of (map (written tables) tables) t.columns) (at path field.ForeignKeys) (map (written_key tables t) t.foreign) ≡ Ok t.foreign =
-    each_back (foreign_key_of (map (written tables) tables) t.columns) (written_key tables t) (λ f. f) (at path field.ForeignKeys) 0 t.foreign (foreign_all tables t t.foreign h all g g.foreign) ∙ ap Ok (itself t.foreign) in
+    each_back (foreign_key_of (map (written tables) tables) t.columns) (written_key tables t) (λ f. f) (at path field.ForeignKeys) 0
+    t.foreign (foreign_all tables t t.foreign h all g g.foreign)
+    ∙ ap Ok (itself t.foreign) in
     rw (key, foreign, settled_all t.columns t.key g.differ g.no_null) refl
 
 whole_tables : (tables ts : List Table) → all_differ (λ v u. bytes_eq (catalog.full_name v) (catalog.full_name u)) tables ≡ true

@@ -79,7 +79,12 @@ unfolding column_at object_at text_member type_member of_member nullable_member 
 column_back c path = by (has_of c) refl
   where
     by : (b : Bool) → has_of c ≡ b
-        → column_at path (in_name_order (object ((field_name field.Name, str c.name) ∷ (field_name field.ColumnType, str (catalog_name c.ty)) ∷ (cond b ((field_name field.Of, str c.of) ∷ []) [] ++ (field_name field.Nullable, bool c.nullable) ∷ [])))) ≡ Ok c
+        → column_at path
+        (in_name_order
+        (object
+        ((field_name field.Name, str c.name) ∷ (field_name field.ColumnType, str (catalog_name c.ty))
+        ∷ (cond b ((field_name field.Of, str c.of) ∷ []) [] ++ (field_name field.Nullable, bool c.nullable) ∷ []))))
+        ≡ Ok c
     by true e = rw (type_back c.ty) refl
     by false e =
         let parts = or_parts (is_opaque c.ty) (not (length c.of == 0)) e in
@@ -93,7 +98,10 @@ columns_back : (tables : List Table) (t : Table) (path : List ℕ) → nat_lt 0 
 unfolding columns_member list_member field_name
 columns_back tables t path h =
     let test : List Column → Result (List Column) CatalogRefusal = λ columns. cond (length columns == 0) (Err (Shape (at path field.Columns))) (Ok columns) in
-    ap (and_then test) (array_back column_at column_json (λ c. c) (at path field.Columns) t.columns (each_all (λ c. (p : List ℕ) → column_at p (in_name_order (column_json c)) ≡ Ok c) column_back t.columns) ∙ ap Ok (itself t.columns))
+    ap (and_then test)
+    (array_back column_at column_json (λ c. c) (at path field.Columns) t.columns
+    (each_all (λ c. (p : List ℕ) → column_at p (in_name_order (column_json c)) ≡ Ok c) column_back t.columns)
+    ∙ ap Ok (itself t.columns))
     ∙ not_none t.columns (Shape (at path field.Columns)) h
 
 -- ---- foreign keys
@@ -110,9 +118,15 @@ foreign_back tables t f path =
     let own = map (name_at t.columns) f.columns in
     let remote = slice_get tables f.remote in
     let there = map (name_at (columns_in remote)) f.references in
-    ap (and_then (λ columns. and_then (λ references. let made : WrittenForeignKey = record { columns = columns; schema = schema_in remote; table = table_name_in remote; references = references } in Ok made)
+    ap (and_then (λ columns. and_then
+    (λ references. let made : WrittenForeignKey = record
+    { columns = columns; schema = schema_in remote; table = table_name_in remote; references = references } in Ok made)
     (each text_at (at path field.References) (element_list (elements_in_name_order (elements_of (map str there))))))) (texts_back (at path field.Columns) own)
-    ∙ ap (and_then (λ references. let made : WrittenForeignKey = record { columns = own; schema = schema_in remote; table = table_name_in remote; references = references } in Ok made)) (texts_back (at path field.References) there)
+    ∙ ap
+    (and_then
+    (λ references. let made : WrittenForeignKey = record
+    { columns = own; schema = schema_in remote; table = table_name_in remote; references = references } in Ok made))
+    (texts_back (at path field.References) there)
 
 -- ---- tables
 
@@ -127,7 +141,9 @@ key_back tables t path = texts_back (at path field.PrimaryKey) (map (name_at t.c
 keys_back : (tables : List Table) (t : Table) (path : List ℕ) → foreign_keys_member path (in_name_order (table_json tables t)) ≡ Ok (map (written_key tables t) t.foreign)
 unfolding foreign_keys_member field_name
 keys_back tables t path =
-    array_back foreign_key_at (foreign_json tables t) (written_key tables t) (at path field.ForeignKeys) t.foreign (each_all (λ f. (p : List ℕ) → foreign_key_at p (in_name_order (foreign_json tables t f)) ≡ Ok (written_key tables t f)) (foreign_back tables t) t.foreign)
+    array_back foreign_key_at (foreign_json tables t) (written_key tables t) (at path field.ForeignKeys) t.foreign
+    (each_all (λ f. (p : List ℕ) → foreign_key_at p (in_name_order (foreign_json tables t f)) ≡ Ok (written_key tables t f))
+    (foreign_back tables t) t.foreign)
 
 table_back : (tables : List Table) (t : Table) (path : List ℕ) → nat_lt 0 (length t.columns) ≡ true → table_at path (in_name_order (table_json tables t)) ≡ Ok (written tables t)
 unfolding table_at object_at text_member field_name

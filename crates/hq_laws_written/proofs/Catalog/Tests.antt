@@ -68,7 +68,8 @@ few_columns : (tables ts : List Table) → Each (IsGood tables) ts → too_many_
 unfolding too_many_columns
 few_columns tables ts h =
     ap (option_map (λ (w : WrittenTable). TooMany (field_name field.Columns) (length w.columns)))
-    (find_none (λ (w : WrittenTable). nat_lt 200 (length w.columns)) (written tables) ts (each_weaken (IsGood tables) (λ t. nat_lt 200 (length t.columns) ≡ false) (λ t g. not_more (length t.columns) 200 g.few) ts h))
+    (find_none (λ (w : WrittenTable). nat_lt 200 (length w.columns)) (written tables) ts
+    (each_weaken (IsGood tables) (λ t. nat_lt 200 (length t.columns) ≡ false) (λ t g. not_more (length t.columns) 200 g.few) ts h))
 
 pub not_too_many : (tables : List Table) → nat_le (length tables) 500 ≡ true → Each (IsGood tables) tables → too_many (map (written tables) tables) ≡ None
 not_too_many tables few h = rw (few_tables tables few) (few_columns tables tables h)
@@ -98,7 +99,8 @@ no_repeat earlier (name ∷ names) h =
     rw (none_before bytes_eq earlier names name h) (no_repeat (earlier ++ name ∷ []) names (rw (append_assoc earlier (name ∷ []) names) h))
 
 -- the names of different key columns differ
-pub key_names : (columns : List Column) (key : List ℕ) → differ columns ≡ true → all_differ (λ c d. c == d) key ≡ true → Each (IsPlace columns) key → all_differ bytes_eq (map (name_at columns) key) ≡ true
+pub key_names : (columns : List Column) (key : List ℕ) → differ columns ≡ true → all_differ (λ c d. c == d) key ≡ true
+    → Each (IsPlace columns) key → all_differ bytes_eq (map (name_at columns) key) ≡ true
 key_names columns key h apart there = differ_map bytes_eq (name_at columns) key ∙ go key apart there
   where
     others : (k : ℕ) (ks : List ℕ) → IsPlace columns k → Each (IsPlace columns) ks → list_any (λ d. k == d) ks ≡ false → list_any (λ d. bytes_eq (name_at columns k) (name_at columns d)) ks ≡ false
@@ -125,7 +127,9 @@ none_within tables t g =
     let key = no_repeat [] (map (name_at t.columns) t.key) (key_names t.columns t.key g.differ g.apart there) in
     rw columns key
 
-none_from : (tables : List Table) (earlier : List (List ℕ)) (ts : List Table) → all_differ bytes_eq (earlier ++ map catalog.full_name ts) ≡ true → Each (IsGood tables) ts → repeat_from earlier (map (written tables) ts) ≡ None
+none_from : (tables : List Table) (earlier : List (List ℕ)) (ts : List Table)
+    → all_differ bytes_eq (earlier ++ map catalog.full_name ts) ≡ true → Each (IsGood tables) ts
+    → repeat_from earlier (map (written tables) ts) ≡ None
 none_from tables earlier [] h g = refl
 none_from tables earlier (t ∷ ts) h g =
     let name = catalog.full_name t in
@@ -144,4 +148,6 @@ key_there tables t g = rw (length-map t.key (name_at t.columns)) (not_zero (leng
 pub each_keyed : (tables ts : List Table) → Each (IsGood tables) ts → no_key (map (written tables) ts) ≡ None
 unfolding no_key
 each_keyed tables ts h =
-    ap (option_map (λ (w : WrittenTable). NoKey (full_name w))) (find_none (λ (w : WrittenTable). length w.key == 0) (written tables) ts (each_weaken (IsGood tables) (λ t. (length (map (name_at t.columns) t.key) == 0) ≡ false) (key_there tables) ts h))
+    ap (option_map (λ (w : WrittenTable). NoKey (full_name w)))
+    (find_none (λ (w : WrittenTable). length w.key == 0) (written tables) ts
+    (each_weaken (IsGood tables) (λ t. (length (map (name_at t.columns) t.key) == 0) ≡ false) (key_there tables) ts h))

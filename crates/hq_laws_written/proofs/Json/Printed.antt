@@ -78,7 +78,8 @@ read_printed j clean shallow =
     let o = outline (data_of j) in
     let shallow_text : tree.depth o ≤ max_depth = omega (arith, same_depth j) in
     ap read (sym (print-outline (data_of j)))
-    ∙ ap (λ ts. option_and_then of_json (option_and_then (λ p. json.if_last p.0 p.1) (json.value max_depth ts))) (tokens-print (json_tokens o) (ArePrintable-json_tokens o (numbers j clean)) ∙ sym (append-nil (json_tokens o)))
+    ∙ ap (λ ts. option_and_then of_json (option_and_then (λ p. json.if_last p.0 p.1) (json.value max_depth ts)))
+    (tokens-print (json_tokens o) (ArePrintable-json_tokens o (numbers j clean)) ∙ sym (append-nil (json_tokens o)))
     ∙ ap (λ r. option_and_then of_json (option_and_then (λ p. json.if_last p.0 p.1) r)) (value-json_tokens o max_depth [] shallow_text)
 
 -- ---- UTF-8

@@ -39,7 +39,10 @@ and_false false = refl
 places_differ : {A : Type 0} (n : ℕ) (xs : List A) → all_differ (λ c d. c == d) (numbered (λ place x. place) n xs) ≡ true
 places_differ n [] = refl
 places_differ n (x ∷ xs) =
-    rw (any_none (λ d. n == d) (numbered (λ place y. place) (suc n) xs) (numbered_each (λ d. (n == d) ≡ false) (suc n) xs (λ i y e. ne_eqb n (suc n + i) (λ same. omega (arith, same))))) (places_differ (suc n) xs)
+    rw
+    (any_none (λ d. n == d) (numbered (λ place y. place) (suc n) xs)
+    (numbered_each (λ d. (n == d) ≡ false) (suc n) xs (λ i y e. ne_eqb n (suc n + i) (λ same. omega (arith, same)))))
+    (places_differ (suc n) xs)
 
 module _ (k : TrackedTree) (columns : List Column) (apart : differ columns ≡ true) where
   -- a member that is read
@@ -91,7 +94,9 @@ module _ (k : TrackedTree) (columns : List Column) (apart : differ columns ≡ t
   unfolding column_config_at object_at text_at named_value field_name
   config_passes c path is = rw (named_back columns c (member_path path (name_at columns c)) apart is) refl
 
-  all_passed : (path : List ℕ) (ms : List Read) → Each (λ (m : Read). member_due (column_config_at columns) path m.0 (unless_null m.1) ≡ Ok tt) ms → all_pass (λ (m : Read). member_due (column_config_at columns) path m.0 (unless_null m.1)) ms ≡ Ok tt
+  all_passed : (path : List ℕ) (ms : List Read)
+      → Each (λ (m : Read). member_due (column_config_at columns) path m.0 (unless_null m.1) ≡ Ok tt) ms
+      → all_pass (λ (m : Read). member_due (column_config_at columns) path m.0 (unless_null m.1)) ms ≡ Ok tt
   all_passed path [] h = refl
   all_passed path (m ∷ ms) h = ap (and_then (λ u. all_pass (λ (n : Read). member_due (column_config_at columns) path n.0 (unless_null n.1)) ms)) h.0 ∙ all_passed path ms h.1
 
@@ -116,7 +121,10 @@ module _ (k : TrackedTree) (columns : List Column) (apart : differ columns ≡ t
   values : Each (λ m. m.1 ≡ value_under m.0) configs_read
   values =
       each_read (λ m. m.1 ≡ value_under m.0)
-      (each_weaken (IsPlace columns) (λ c. (config_read c).1 ≡ value_under (config_read c).0) (λ c is. ap (λ o. in_name_order (object ((field_name field.CustomName, str (name_of o)) ∷ []))) (sym (place_found columns c apart is))) (shown_columns k columns) shown_there)
+      (each_weaken (IsPlace columns) (λ c. (config_read c).1 ≡ value_under (config_read c).0)
+      (λ c is. ap (λ o. in_name_order (object ((field_name field.CustomName, str (name_of o)) ∷ [])))
+      (sym (place_found columns c apart is)))
+      (shown_columns k columns) shown_there)
 
   -- of the columns, the one of this name is the one at this place
   only_here : (i : ℕ) (c : Column) (d : ℕ) → slice_get columns i ≡ Some c → IsPlace columns d → bytes_eq (name_at columns d) c.name ≡ (d == i)
@@ -142,7 +150,9 @@ module _ (k : TrackedTree) (columns : List Column) (apart : differ columns ≡ t
   member_there : (i : ℕ) (c : Column) → slice_get columns i ≡ Some c → list_any (λ m. bytes_eq m.0 c.name) configs_read ≡ is_shown k i
   member_there i c at =
       any_read (λ m. bytes_eq m.0 c.name)
-      ∙ any_alike (λ d. bytes_eq (name_at columns d) c.name) (λ d. d == i) (shown_columns k columns) (each_weaken (IsPlace columns) (λ d. bytes_eq (name_at columns d) c.name ≡ (d == i)) (λ d is. only_here i c d at is) (shown_columns k columns) shown_there)
+      ∙ any_alike (λ d. bytes_eq (name_at columns d) c.name) (λ d. d == i) (shown_columns k columns)
+      (each_weaken (IsPlace columns) (λ d. bytes_eq (name_at columns d) c.name ≡ (d == i)) (λ d is. only_here i c d at is)
+      (shown_columns k columns) shown_there)
       ∙ any_filter (λ d. d == i) (is_shown k) (all_columns columns)
       ∙ among_shown i c (is_shown k i) at refl
 

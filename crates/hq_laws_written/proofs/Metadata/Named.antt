@@ -99,5 +99,9 @@ all_tracked tables m ks path h apart entries plain once =
     (each_both (IsEntry tables m) (IsPlainTable tables) (λ k. IsEntry tables m k × IsPlainTable tables k) (λ k a b. (a, b)) ks entries plain) in
     let new = differ_after (λ (j k : TrackedTree). j.table == k.table) bare [] ks (differ_map (λ (j k : TrackedTree). j.table == k.table) bare ks ∙ once) in
     after_back (tracked_at tables) (λ k. in_name_order (tracked_json tables k)) bare path 0 [] ks
-    (after_both (λ (done : List TrackedTree). Good) (λ (done : List TrackedTree) (k : TrackedTree). list_any (λ (j : TrackedTree). j.table == k.table) done ≡ false) (λ (done : List TrackedTree) (k : TrackedTree). (p : List ℕ) → tracked_at tables done p (in_name_order (tracked_json tables k)) ≡ Ok (bare k)) bare
+    (after_both (λ (done : List TrackedTree). Good)
+    (λ (done : List TrackedTree) (k : TrackedTree). list_any (λ (j : TrackedTree). j.table == k.table) done ≡ false)
+    (λ (done : List TrackedTree) (k : TrackedTree). (p : List ℕ)
+    → tracked_at tables done p (in_name_order (tracked_json tables k)) ≡ Ok (bare k))
+    bare
     (λ done k g n p. tracked_back tables m k done p h g.0 g.1 g.2 n) [] ks (after_each Good bare [] ks good) new)

@@ -40,7 +40,8 @@ found tables k u h at =
     (differ_weaken (λ (t v : Table). bytes_eq t.schema v.schema && bytes_eq t.name v.name) (λ t v. bytes_eq (full_name t) (full_name v)) one_name tables h)
     (and_from _ _ (same_name u.schema) (same_name u.name)) at
 
-read_table : (tables : List Table) (k : ℕ) (u : Table) (path : List ℕ) → Apart tables → slice_get tables k ≡ Some u → filter.table_at tables path (in_name_order (table_ref (slice_get tables k))) ≡ Ok k
+read_table : (tables : List Table) (k : ℕ) (u : Table) (path : List ℕ) → Apart tables → slice_get tables k ≡ Some u
+    → filter.table_at tables path (in_name_order (table_ref (slice_get tables k))) ≡ Ok k
 unfolding filter.table_at qualified_table text_member table_named field_name
 read_table tables k u path h at = rw at (rw (found tables k u h at) refl)
 
@@ -71,5 +72,7 @@ pub columns_back : (columns : List Column) (path : List ℕ) (ks : List ℕ) →
     → each (column_at columns) path (element_list (elements_in_name_order (elements_of (map str (map (name_at columns) ks))))) ≡ Ok ks
 columns_back columns path ks h there =
     ap (each (column_at columns) path) (elements_read str (map (name_at columns) ks) ∙ map_map (λ n. in_name_order (str n)) (name_at columns) ks)
-    ∙ each_back (column_at columns) (λ k. str (name_at columns k)) (λ k. k) path ks (each_weaken (IsPlace columns) (λ k. (p : List ℕ) → column_at columns p (str (name_at columns k)) ≡ Ok k) (λ k is p. column_back columns k p h is) ks there)
+    ∙ each_back (column_at columns) (λ k. str (name_at columns k)) (λ k. k) path ks
+    (each_weaken (IsPlace columns) (λ k. (p : List ℕ) → column_at columns p (str (name_at columns k)) ≡ Ok k)
+    (λ k is p. column_back columns k p h is) ks there)
     ∙ ap Ok (itself ks)

@@ -35,7 +35,8 @@ shown_back : (columns : List Column) (path : List ℕ) (cols : List ℕ) → dif
 shown_back columns path cols h there ordered = ap (mapped (λ listed. chosen listed columns)) (columns_back columns path cols h there) ∙ ap Ok ordered
 
 -- what a role may see
-permission_back : (tables : List Table) (m : MetaTree) (t : ℕ) (role path : List ℕ) (cols : List ℕ) (limit : Option ℕ) (aggregations : Bool) → differ (columns_of tables t) ≡ true → Each (IsPlace (columns_of tables t)) cols
+permission_back : (tables : List Table) (m : MetaTree) (t : ℕ) (role path : List ℕ) (cols : List ℕ) (limit : Option ℕ) (aggregations : Bool)
+    → differ (columns_of tables t) ≡ true → Each (IsPlace (columns_of tables t)) cols
     → chosen cols (columns_of tables t) ≡ cols → limit_fits limit ≡ true
     → permission_at tables m t role path (in_name_order (permission_json (columns_of tables t) (record { role = role; cols = cols; filter = always; limit = limit; aggregations = aggregations })))
     ≡ Ok (record { role = role; cols = cols; filter = always; limit = limit; aggregations = aggregations })
@@ -44,7 +45,8 @@ permission_back tables m t role path cols None aggregations h there ordered fit 
 permission_back tables m t role path cols (Some n) aggregations h there ordered fit = rw (shown_back (columns_of tables t) (at path field.Columns) cols h there ordered, fit) refl
 
 -- a permission of a role that has none before
-perm_back : (tables : List Table) (m : MetaTree) (t : ℕ) (before : List PermTree) (p : PermTree) (path : List ℕ) → differ (columns_of tables t) ≡ true → IsPerm tables t p → IsPlainPerm (columns_of tables t) p
+perm_back : (tables : List Table) (m : MetaTree) (t : ℕ) (before : List PermTree) (p : PermTree) (path : List ℕ)
+    → differ (columns_of tables t) ≡ true → IsPerm tables t p → IsPlainPerm (columns_of tables t) p
     → list_any (λ q. bytes_eq q.role p.role) before ≡ false → perm_at tables m t before path (in_name_order (perm_json (columns_of tables t) p)) ≡ Ok p
 unfolding perm_at object_at object_member member_at role_due text_member text_at field_name
 perm_back tables m t before p path h is plain new =
@@ -52,7 +54,8 @@ perm_back tables m t before p path h is plain new =
     rw (is.other, new) (permission ∙ ap (λ f. Ok (record p { filter = f })) (sym plain.unfiltered))
 
 -- the permissions of an entry
-entry_back : (tables : List Table) (m : MetaTree) (k : TrackedTree) (path : List ℕ) → differ (columns_of tables k.table) ≡ true → Each (IsPerm tables k.table) k.perms → Each (IsPlainPerm (columns_of tables k.table)) k.perms
+entry_back : (tables : List Table) (m : MetaTree) (k : TrackedTree) (path : List ℕ) → differ (columns_of tables k.table) ≡ true
+    → Each (IsPerm tables k.table) k.perms → Each (IsPlainPerm (columns_of tables k.table)) k.perms
     → all_differ (λ p q. bytes_eq p.role q.role) k.perms ≡ true → perms_at tables m path (k.table, in_name_order (tracked_json tables k)) ≡ Ok k.perms
 unfolding perms_at entries_member list_at field_name
 entry_back tables m k path h is plain apart =
@@ -64,7 +67,9 @@ entry_back tables m k path h is plain apart =
     let new = differ_after (λ (p q : PermTree). bytes_eq p.role q.role) (λ p. p) [] k.perms (ap (all_differ (λ (p q : PermTree). bytes_eq p.role q.role)) (itself k.perms) ∙ apart) in
     ap (each_after read (at path field.SelectPermissions) 0 []) (elements_read (perm_json columns) k.perms)
     ∙ after_back read write (λ p. p) (at path field.SelectPermissions) 0 [] k.perms
-    (after_both (λ (done : List PermTree). Good) (λ (done : List PermTree) (p : PermTree). list_any (λ (q : PermTree). bytes_eq q.role p.role) done ≡ false) (λ (done : List PermTree) (p : PermTree). (q : List ℕ) → read done q (write p) ≡ Ok p) (λ p. p)
+    (after_both (λ (done : List PermTree). Good)
+    (λ (done : List PermTree) (p : PermTree). list_any (λ (q : PermTree). bytes_eq q.role p.role) done ≡ false)
+    (λ (done : List PermTree) (p : PermTree). (q : List ℕ) → read done q (write p) ≡ Ok p) (λ p. p)
     (λ done p g n q. perm_back tables m k.table done p q h g.0 g.1 n) [] k.perms (after_each Good (λ p. p) [] k.perms good) new)
     ∙ ap Ok (itself k.perms)
 
@@ -75,7 +80,8 @@ pub record IsGoodEntry (tables : List Table) (k : TrackedTree) : Type 0 where
   pub plain : Each (IsPlainPerm (columns_of tables k.table)) k.perms
   pub apart : all_differ (λ p q. bytes_eq p.role q.role) k.perms ≡ true
 
-all_permitted : (tables : List Table) (m : MetaTree) (ks : List TrackedTree) → Each (IsGoodEntry tables) ks → Each (λ k. (p : List ℕ) → perms_at tables m p (k.table, in_name_order (tracked_json tables k)) ≡ Ok k.perms) ks
+all_permitted : (tables : List Table) (m : MetaTree) (ks : List TrackedTree) → Each (IsGoodEntry tables) ks
+    → Each (λ k. (p : List ℕ) → perms_at tables m p (k.table, in_name_order (tracked_json tables k)) ≡ Ok k.perms) ks
 all_permitted tables m [] good = tt
 all_permitted tables m (k ∷ ks) good = ((λ p. entry_back tables m k p good.0.columns good.0.perms good.0.plain good.0.apart), all_permitted tables m ks good.1)
 

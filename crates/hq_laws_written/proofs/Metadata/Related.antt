@@ -49,11 +49,13 @@ pairs_read own remote ps h =
     ∙ ap (sort by_name) (members_inside (map (pair_json own remote) ps) ∙ map_map (λ (m : List ℕ × JsonTree). (m.0, in_name_order m.1)) (pair_json own remote) ps)
     ∙ sort_ascending by_name_total (map (pair_json own remote) ps) h
 
-pair_back : (own remote : List Column) (p : Pair) (path : List ℕ) → differ own ≡ true → differ remote ≡ true → IsPair own remote p → pair_at own remote (name_at own p.own) path (str (name_at remote p.remote)) ≡ Ok p
+pair_back : (own remote : List Column) (p : Pair) (path : List ℕ) → differ own ≡ true → differ remote ≡ true → IsPair own remote p
+    → pair_at own remote (name_at own p.own) path (str (name_at remote p.remote)) ≡ Ok p
 unfolding pair_at text_at
 pair_back own remote p path a b is = rw (named_back own p.own path a is.own_there, named_back remote p.remote path b is.remote_there) (rw is.fit refl)
 
-all_pairs : (own remote : List Column) (path : List ℕ) (ps : List Pair) → differ own ≡ true → differ remote ≡ true → Each (IsPair own remote) ps → each_member (pair_at own remote) path (map (pair_json own remote) ps) ≡ Ok ps
+all_pairs : (own remote : List Column) (path : List ℕ) (ps : List Pair) → differ own ≡ true → differ remote ≡ true
+    → Each (IsPair own remote) ps → each_member (pair_at own remote) path (map (pair_json own remote) ps) ≡ Ok ps
 all_pairs own remote path [] a b h = refl
 all_pairs own remote path (p ∷ ps) a b h =
     ap (and_then (λ q. mapped (λ qs. q ∷ qs) (each_member (pair_at own remote) path (map (pair_json own remote) ps)))) (pair_back own remote p (member_path path (name_at own p.own)) a b h.0)
@@ -80,7 +82,9 @@ module _ (tables : List Table) (h : Apart tables) (all : (t : ℕ) → differ (c
   -- the pairs and the remote table of a relationship
   link_back : (many : Bool) (r : Rel) (path : List ℕ) (u : Table) → slice_get tables r.remote ≡ Some u → is_some (tracked_table m r.remote) ≡ true → nat_lt 0 (length r.pairs) ≡ true
       → Each (IsPair (columns_of tables t) (columns_of tables r.remote)) r.pairs → Ascends by_name (map (pair_json (columns_of tables t) (columns_of tables r.remote)) r.pairs)
-      → link_at tables m t many path (in_name_order (object ((field_name field.ManualConfiguration, link_json tables (columns_of tables t) r) ∷ []))) ≡ Ok (record { remote = r.remote; pairs = r.pairs })
+      → link_at tables m t many path
+      (in_name_order (object ((field_name field.ManualConfiguration, link_json tables (columns_of tables t) r) ∷ [])))
+      ≡ Ok (record { remote = r.remote; pairs = r.pairs })
   unfolding link_at by_hand object_at member_at field_name
   link_back many r path u is_at tracked some there ascending =
       let remote = remote_back tables m r.remote u (at (at path field.ManualConfiguration) field.RemoteTable) h is_at tracked in
@@ -104,7 +108,8 @@ module _ (tables : List Table) (h : Apart tables) (all : (t : ℕ) → differ (c
     pub plain : IsPlainRel (columns_of tables t) (columns_of tables r.remote) r
 
   -- those of one kind are read
-  kind_back : (many : Bool) (path : List ℕ) (rs : List Rel) → Each (λ r. r.many ≡ many) rs → Each IsGood rs → Each (λ r. (p : List ℕ) → rel_at tables m t many p (in_name_order (rel_json tables (columns_of tables t) r)) ≡ Ok r) rs
+  kind_back : (many : Bool) (path : List ℕ) (rs : List Rel) → Each (λ r. r.many ≡ many) rs → Each IsGood rs
+      → Each (λ r. (p : List ℕ) → rel_at tables m t many p (in_name_order (rel_json tables (columns_of tables t) r)) ≡ Ok r) rs
   kind_back many path rs kind good =
       each_both (λ (r : Rel). r.many ≡ many) IsGood (λ r. (p : List ℕ) → rel_at tables m t many p (in_name_order (rel_json tables (columns_of tables t) r)) ≡ Ok r)
       (λ r k g p. rel_back many r p g.there.0 k g.there.1 g.tracked g.is g.plain) rs kind good
@@ -135,7 +140,8 @@ not_true false h = refl
 
 module _ (tables : List Table) (h : Apart tables) (all : (t : ℕ) → differ (columns_of tables t) ≡ true) (m : MetaTree) where
   -- the relationships of an entry are read: object ones, and behind them array ones
-  entry_back : (k : TrackedTree) (path : List ℕ) → objects_first k.rels ≡ true → Each (IsGood tables h all m k.table) k.rels → rels_at tables m path (k.table, in_name_order (tracked_json tables k)) ≡ Ok k.rels
+  entry_back : (k : TrackedTree) (path : List ℕ) → objects_first k.rels ≡ true → Each (IsGood tables h all m k.table) k.rels
+      → rels_at tables m path (k.table, in_name_order (tracked_json tables k)) ≡ Ok k.rels
   unfolding rels_at objects_at entries_member list_at field_name
   entry_back k path ordered good =
       let columns = columns_of tables k.table in
@@ -149,10 +155,13 @@ module _ (tables : List Table) (h : Apart tables) (all : (t : ℕ) → differ (c
       ∙ each_back (rel_at tables m k.table false) (λ r. in_name_order (rel_json tables columns r)) (λ r. r) (at path field.ObjectRelationships) objects
       (kind_back tables h all m k.table false path objects object_kind (each_filter Good (λ r. not r.many) k.rels good))
       ∙ ap Ok (itself objects) in
-      let second : each_after (λ before. rel_at tables m k.table true) (at path field.ArrayRelationships) 0 objects (element_list (elements_in_name_order (elements_of (map (rel_json tables columns) arrays)))) ≡ Ok (objects ++ arrays) =
+      let second : each_after (λ before. rel_at tables m k.table true) (at path field.ArrayRelationships) 0 objects
+      (element_list (elements_in_name_order (elements_of (map (rel_json tables columns) arrays))))
+      ≡ Ok (objects ++ arrays) =
       ap (each_after (λ before. rel_at tables m k.table true) (at path field.ArrayRelationships) 0 objects) (elements_read (rel_json tables columns) arrays)
       ∙ after_back (λ before. rel_at tables m k.table true) (λ r. in_name_order (rel_json tables columns r)) (λ r. r) (at path field.ArrayRelationships) 0 objects arrays
-      (after_each (λ r. (p : List ℕ) → rel_at tables m k.table true p (in_name_order (rel_json tables columns r)) ≡ Ok r) (λ r. r) objects arrays (kind_back tables h all m k.table true path arrays array_kind (each_filter Good (λ r. r.many) k.rels good)))
+      (after_each (λ r. (p : List ℕ) → rel_at tables m k.table true p (in_name_order (rel_json tables columns r)) ≡ Ok r) (λ r. r) objects
+      arrays (kind_back tables h all m k.table true path arrays array_kind (each_filter Good (λ r. r.many) k.rels good)))
       ∙ ap (λ l. Ok (objects ++ l)) (itself arrays) in
       rw first (second ∙ ap Ok (in_two k.rels ordered))
 

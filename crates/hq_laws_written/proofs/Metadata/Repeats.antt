@@ -47,7 +47,8 @@ grown_by m own r rs b = record { fields = own.fields ++ flat_map rel_fields (con
 
 -- one relationship, and then the rest
 one_rel : (m : MetaTree) (path : List ℕ) (n : ℕ) (own : Own) (r : Rel) (rs : List Rel) (b : Bool) → is_in_schema m r.remote ≡ b
-    → ((next : Own) → Differ (grown m next rs) → with_rels m path (n + 1) next rs ≡ Ok (grown m next rs)) → Differ (grown_by m own r rs b) → with_rels m path n own (r ∷ rs) ≡ Ok (grown_by m own r rs b)
+    → ((next : Own) → Differ (grown m next rs) → with_rels m path (n + 1) next rs ≡ Ok (grown m next rs)) → Differ (grown_by m own r rs b)
+    → with_rels m path n own (r ∷ rs) ≡ Ok (grown_by m own r rs b)
 unfolding with_shown_rel with_rel
 one_rel m path n own r rs true e later h =
     let more : Own = record { fields = own.fields ++ rel_fields r; inputs = own.inputs ++ r.name ∷ [] } in
@@ -109,7 +110,8 @@ all_rels_added m path own rs h =
 abbrev columns_alone : TrackedTree → Own
 columns_alone k = record { fields = column_names_of k; inputs = fixed_inputs ++ column_names_of k }
 
-own_added : (m : MetaTree) (path : List ℕ) (k : TrackedTree) → (all_names_differ (fields_of m k) && all_names_differ (inputs_of m k)) ≡ true → own_names m path k ≡ Ok (grown m (columns_alone k) k.rels)
+own_added : (m : MetaTree) (path : List ℕ) (k : TrackedTree) → (all_names_differ (fields_of m k) && all_names_differ (inputs_of m k)) ≡ true
+    → own_names m path k ≡ Ok (grown m (columns_alone k) k.rels)
 unfolding own_names with_columns
 own_added m path k h =
     let p = and_parts _ _ h in
@@ -154,5 +156,7 @@ no_repeat s m path h =
     let p = and_parts _ _ last.0 in
     let q = and_parts _ _ p.0 in
     let first : Shared = record { types = fixed_types; roots = [] } in
-    ap (and_then (λ (shared : Shared). scalars_due s shared.types path 0 m.tracked)) (tables_added s m path 0 first m.tracked q.0 q.1 (each_true (λ (k : TrackedTree). all_names_differ (fields_of m k) && all_names_differ (inputs_of m k)) m.tracked p.1))
+    ap (and_then (λ (shared : Shared). scalars_due s shared.types path 0 m.tracked))
+    (tables_added s m path 0 first m.tracked q.0 q.1
+    (each_true (λ (k : TrackedTree). all_names_differ (fields_of m k) && all_names_differ (inputs_of m k)) m.tracked p.1))
     ∙ scalars_passed s (all_types s m) path 0 m.tracked (each_true (scalars_differ s (all_types s m)) m.tracked last.1)

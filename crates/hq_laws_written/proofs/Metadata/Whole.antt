@@ -39,7 +39,8 @@ columns_differ tables good t =
     go (slice_get tables t) refl
 
 -- the table that a relationship goes to is there
-tracked_there : (tables : List Table) (m : MetaTree) (ks : List TrackedTree) (t : ℕ) → Each (IsEntry tables m) ks → is_some (find (λ k. k.table == t) ks) ≡ true → (u : Table) × (slice_get tables t ≡ Some u)
+tracked_there : (tables : List Table) (m : MetaTree) (ks : List TrackedTree) (t : ℕ) → Each (IsEntry tables m) ks
+    → is_some (find (λ k. k.table == t) ks) ≡ true → (u : Table) × (slice_get tables t ≡ Some u)
 tracked_there tables m [] t h e = cc
 tracked_there tables m (k ∷ ks) t h e =
     let go : (b : Bool) → (k.table == t) ≡ b → is_some (cond b (Some k) (find (λ j. j.table == t) ks)) ≡ true → (u : Table) × (slice_get tables t ≡ Some u) = elim [
@@ -79,17 +80,27 @@ module _ (tables : List Table) (m : MetaTree) (h : IsPlain tables m) where
   good_rel : (k : TrackedTree) (r : Rel) → IsRel tables m k.table r → IsPlainRel (columns_of tables k.table) (columns_of tables r.remote) r → related.IsGood tables catalog_parts.0 all names k.table r
   good_rel k r is plain =
       let tracked = same_tracked r.remote is.tracked in
-      record { there = tracked_there tables m m.tracked r.remote entries is.tracked; tracked = tracked; is = record { free = is.free; other = is.other; tracked = tracked; some = is.some; pairs = is.pairs }; plain = plain }
+      record {
+        there = tracked_there tables m m.tracked r.remote entries is.tracked;
+        tracked = tracked;
+        is = record { free = is.free; other = is.other; tracked = tracked; some = is.some; pairs = is.pairs };
+        plain = plain;
+      }
 
   related_entries : Each (related.IsGoodEntry tables catalog_parts.0 all names) m.tracked
   related_entries =
       each_both (IsEntry tables m) (IsPlainTable tables) (related.IsGoodEntry tables catalog_parts.0 all names)
-      (λ k e p. (e.ordered, each_both (IsRel tables m k.table) (λ r. IsPlainRel (columns_of tables k.table) (columns_of tables r.remote) r) (related.IsGood tables catalog_parts.0 all names k.table) (good_rel k) k.rels e.rels p.rels))
+      (λ k e p. (
+        e.ordered,
+        each_both (IsRel tables m k.table) (λ r. IsPlainRel (columns_of tables k.table) (columns_of tables r.remote) r)
+            (related.IsGood tables catalog_parts.0 all names k.table) (good_rel k) k.rels e.rels p.rels,
+      ))
       m.tracked entries h.tracked
 
   permitted_entries : Each (permitted.IsGoodEntry tables) m.tracked
   permitted_entries =
-      each_both (IsEntry tables m) (IsPlainTable tables) (permitted.IsGoodEntry tables) (λ k e p. record { columns = all k.table; perms = e.perms; plain = p.perms; apart = e.apart }) m.tracked entries h.tracked
+      each_both (IsEntry tables m) (IsPlainTable tables) (permitted.IsGoodEntry tables)
+      (λ k e p. record { columns = all k.table; perms = e.perms; plain = p.perms; apart = e.apart }) m.tracked entries h.tracked
 
   -- the metadata that is read is this one
   same_meta : record { tracked = m.tracked; inherited = [] } ≡ m
@@ -99,7 +110,9 @@ module _ (tables : List Table) (m : MetaTree) (h : IsPlain tables m) where
   tracked_back : (path : List ℕ) → tracked_of tables path (map (λ k. in_name_order (tracked_json tables k)) m.tracked) [] ≡ Ok m
   unfolding tracked_of named inherited_due
   tracked_back path =
-      let named_all = all_tracked tables m m.tracked path catalog_parts.0 (each_all (λ (k : TrackedTree). differ (columns_of tables k.table) ≡ true) (λ k. all k.table) m.tracked) entries h.tracked once in
+      let named_all =
+      all_tracked tables m m.tracked path catalog_parts.0
+      (each_all (λ (k : TrackedTree). differ (columns_of tables k.table) ≡ true) (λ k. all k.table) m.tracked) entries h.tracked once in
       let related_all = related_back tables catalog_parts.0 all m.tracked path related_entries in
       let permitted_all = permitted_back tables m.tracked path permitted_entries in
       let differ_all = (and_parts _ _ (and_parts _ _ h.fits).0).1 in

@@ -37,7 +37,8 @@ abbrev whole : MetaTree
 whole = record { tracked = tracked ∷ []; inherited = [] }
 
 whole_text : compact (meta_json (authors ∷ []) whole)
-    ≡ codes "{\"version\":3,\"sources\":[{\"name\":\"default\",\"kind\":\"postgres\",\"tables\":[{\"table\":{\"schema\":\"public\",\"name\":\"author\"},\"configuration\":{\"custom_name\":\"writer\",\"column_config\":{\"id\":{\"custom_name\":\"number\"}},\"custom_root_fields\":{\"select\":\"writers\",\"select_by_pk\":\"writer_by_pk\",\"select_aggregate\":\"writers_aggregate\"}},\"object_relationships\":[{\"name\":\"boss\",\"using\":{\"manual_configuration\":{\"remote_table\":{\"schema\":\"public\",\"name\":\"author\"},\"column_mapping\":{\"editor\":\"id\"}}}}],\"array_relationships\":[],\"select_permissions\":[{\"role\":\"reader\",\"permission\":{\"columns\":[\"id\"],\"filter\":{},\"limit\":10,\"allow_aggregations\":true}}]}]}]}"
+    ≡ codes
+    "{\"version\":3,\"sources\":[{\"name\":\"default\",\"kind\":\"postgres\",\"tables\":[{\"table\":{\"schema\":\"public\",\"name\":\"author\"},\"configuration\":{\"custom_name\":\"writer\",\"column_config\":{\"id\":{\"custom_name\":\"number\"}},\"custom_root_fields\":{\"select\":\"writers\",\"select_by_pk\":\"writer_by_pk\",\"select_aggregate\":\"writers_aggregate\"}},\"object_relationships\":[{\"name\":\"boss\",\"using\":{\"manual_configuration\":{\"remote_table\":{\"schema\":\"public\",\"name\":\"author\"},\"column_mapping\":{\"editor\":\"id\"}}}}],\"array_relationships\":[],\"select_permissions\":[{\"role\":\"reader\",\"permission\":{\"columns\":[\"id\"],\"filter\":{},\"limit\":10,\"allow_aggregations\":true}}]}]}]}"
 unfolding field_name escaped digits
 whole_text = refl
 

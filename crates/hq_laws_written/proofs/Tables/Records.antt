@@ -54,7 +54,8 @@ stops cfg zero s ys none = refl
 stops cfg (suc n) s ys none = rw none refl
 
 -- records that are reached, and behind which none follows, are all of the text
-runs : (cfg : Config) (n : ℕ) (s : State) (xs : List ℕ) (rows : List (List (List ℕ))) (s2 : State) (ys : List ℕ) → Reached cfg s xs rows s2 ys → next_record cfg s2 [] [] ys ≡ None → length rows ≤ n → records_from cfg n s xs ≡ rows
+runs : (cfg : Config) (n : ℕ) (s : State) (xs : List ℕ) (rows : List (List (List ℕ))) (s2 : State) (ys : List ℕ)
+    → Reached cfg s xs rows s2 ys → next_record cfg s2 [] [] ys ≡ None → length rows ≤ n → records_from cfg n s xs ≡ rows
 unfolding Reached records_from
 runs cfg n s xs [] s2 ys (state, text) none enough = rw (state, text) (stops cfg n s2 ys none)
 runs cfg zero s xs (r ∷ rs) s2 ys h none enough = absurd (omega (arith, enough))

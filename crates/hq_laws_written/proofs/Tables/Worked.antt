@@ -14,7 +14,10 @@ abbrev articles : Table
 articles = record {
   schema = codes "public";
   name = codes "article";
-  columns = record { name = codes "id"; ty = Integer; of = []; nullable = false } ∷ record { name = codes "title"; ty = Text; of = []; nullable = false } ∷ record { name = codes "hq_r1_to"; ty = Bigint; of = []; nullable = true } ∷ [];
+  columns =
+      record { name = codes "id"; ty = Integer; of = []; nullable = false }
+      ∷ record { name = codes "title"; ty = Text; of = []; nullable = false }
+      ∷ record { name = codes "hq_r1_to"; ty = Bigint; of = []; nullable = true } ∷ [];
   key = 0 ∷ [];
   foreign = [];
 }

@@ -5,9 +5,11 @@ use Rattle.hq_command.proofs.stating.state.Goals as goal
 
 pub returns-clause-told : goal.returns-clause-told
 returns-clause-told g c =
-    over_description c.in_ok-engine.engine c.args.session.now (g.S.Source.left c.args.input.now) c.args.description.catalog.tables (meta_view c.args.description.meta) (g.K.Sink.written c.args.out.now) (g.K.Sink.written c.state_to.new.out) c.state_to.result
+    over_description c.in_ok-engine.engine c.args.session.now (g.S.Source.left c.args.input.now) c.args.description.catalog.tables
+    (meta_view c.args.description.meta) (g.K.Sink.written c.args.out.now) (g.K.Sink.written c.state_to.new.out) c.state_to.result
     c.in_ok-engine.ensures.0 c.in_ok-engine.ensures.1 c.state_to.ensures.told
 
 pub returns-clause-statement : goal.returns-clause-statement
 returns-clause-statement g c =
-    statement_by c.args.session.now (g.S.Source.left c.args.input.now) c.args.description.catalog.tables _ (meta_view c.args.description.meta) _ c.state_to.result c.in_ok-engine.ensures.0 c.in_ok-engine.ensures.1 c.state_to.ensures.statement
+    statement_by c.args.session.now (g.S.Source.left c.args.input.now) c.args.description.catalog.tables _
+    (meta_view c.args.description.meta) _ c.state_to.result c.in_ok-engine.ensures.0 c.in_ok-engine.ensures.1 c.state_to.ensures.statement

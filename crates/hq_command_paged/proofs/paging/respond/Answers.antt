@@ -5,5 +5,7 @@ use Rattle.hq_command_paged.proofs.paging.respond.Goals as goal
 
 pub returns-in-Ok-clause-told : goal.returns-in-Ok-clause-told
 returns-in-Ok-clause-told g c =
-    over_disk c.in-Ok.made.engine c.args.session.now _ (g.S.Source.left c.args.input.now) c.args.loaded.catalog.tables (meta_view c.args.loaded.meta) (told_rows (g.X.Disk.held c.args.disk) c.args.loaded.rows) (g.K.Sink.written c.args.out.now) (g.K.Sink.written c.reply_to-answer.new.out) _ _ c.reply_to-answer.result
+    over_disk c.in-Ok.made.engine c.args.session.now _ (g.S.Source.left c.args.input.now) c.args.loaded.catalog.tables
+    (meta_view c.args.loaded.meta) (told_rows (g.X.Disk.held c.args.disk) c.args.loaded.rows) (g.K.Sink.written c.args.out.now)
+    (g.K.Sink.written c.reply_to-answer.new.out) _ _ c.reply_to-answer.result
     c.in-Ok.ensures.catalog c.in-Ok.ensures.meta c.in-Ok.ensures.rows c.reply_to-answer.ensures.told

@@ -17,4 +17,5 @@ returns-in-Ok-on_disk-clause-ends g c =
     let engine = c.in-Ok-on_disk.made.engine in
     let made = c.in-Ok-on_disk.ensures in
     ends_on_disk t c.args.rule.now c.args.connections before after (g.K.Sink.written c.args.out.now) (g.K.Sink.written served.new.out) disk left (g.F.Files.folder c.args.files.now) c.args.dir.now
-    (loaded_view c.in-Ok.loaded) _ engine.catalog.tables (meta_view engine.meta) _ served.result.answer c.ended.result c.in-Ok.ensures.told made.catalog made.meta made.rows made.faults c.ended.ensures served.ensures.opens
+    (loaded_view c.in-Ok.loaded) _ engine.catalog.tables (meta_view engine.meta) _ served.result.answer c.ended.result c.in-Ok.ensures.told
+    made.catalog made.meta made.rows made.faults c.ended.ensures served.ensures.opens

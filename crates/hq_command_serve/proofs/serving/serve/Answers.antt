@@ -24,7 +24,8 @@ returns-in_err-serve_loaded-clause-ends g c =
     let old = g.K.Sink.written c.args.out.now in
     let new = g.K.Sink.written c.serve_loaded.new.out in
     ends_as before after old new (ServesOver t c.args.rule.now c.args.connections before after old new) (g.F.Files.folder c.args.files.now) c.args.dir.now
-    (loaded_view c.in_ok-loaded.loaded) c.in_ok-loaded.ensures.told (Err c.in_err-serve_loaded.field-0.0) c.from_residual-in_err-serve_loaded.result (p.1 ∙ ap (λ e. Err e) p.2) c.in_err-serve_loaded.ensures.opens
+    (loaded_view c.in_ok-loaded.loaded) c.in_ok-loaded.ensures.told (Err c.in_err-serve_loaded.field-0.0)
+    c.from_residual-in_err-serve_loaded.result (p.1 ∙ ap (λ e. Err e) p.2) c.in_err-serve_loaded.ensures.opens
 
 pub returns-clause-ends : goal.returns-clause-ends
 returns-clause-ends g c =

@@ -16,7 +16,9 @@ returns-clause-opens g c =
     let old = g.K.Sink.written c.args.out.now in
     let new = g.K.Sink.written c.serve_by_secret.new.out in
     let result = c.serve_by_secret.result.result in
-    let at_door = door_same t c.args.rule.now c.args.connections engine.catalog.tables (meta_view engine.meta) _ 0 0 before.accepted (g.D.Door.accepted c.listen.new.self) after.accepted before.links (g.D.Door.links c.listen.new.self) after.links old new result
+    let at_door =
+    door_same t c.args.rule.now c.args.connections engine.catalog.tables (meta_view engine.meta) _ 0 0 before.accepted
+    (g.D.Door.accepted c.listen.new.self) after.accepted before.links (g.D.Door.links c.listen.new.self) after.links old new result
     c.in_ok-listen.ensures.accepted c.in_ok-listen.ensures.links c.serve_by_secret.ensures.serves in
     opened before after old new (ServesOver t c.args.rule.now c.args.connections before after old new (contents loaded.catalog.tables (meta_view loaded.meta) loaded.rows)) result
     (over_same t c.args.rule.now c.args.connections before after old new 0 0 loaded.catalog.tables engine.catalog.tables (meta_view loaded.meta) (meta_view engine.meta) (Some loaded.rows) _ result

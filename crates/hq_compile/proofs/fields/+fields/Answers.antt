@@ -32,7 +32,8 @@ first_join-returns-clause-join t c =
     let pairs = c.in_ok-push_fields.ensures.pairs ∙ ap (λ (ps : List ExprPair). map pair_view ps ++ fields_values fs s g (look c.as_slice-places.result.now) first.table m) c.new.ensures.items
     ∙ ap (λ (places : List MaskPlace). fields_values fs s g (look places) first.table m) c.as_slice-places.ensures in
     IfOk-weaker c.one_join.result _ _
-    (λ join is. first_of s g fs first.table first.number m (look first.masks.places) _ _ _ _ _ _ (join_view join) is c.in_ok-select.ensures c.object-value.ensures pairs c.in_ok-push_fields.ensures.joins)
+    (λ join is. first_of s g fs first.table first.number m (look first.masks.places) _ _ _ _ _ _ (join_view join) is c.in_ok-select.ensures
+    c.object-value.ensures pairs c.in_ok-push_fields.ensures.joins)
     c.one_join.ensures
 
 -- the object behind a relationship, with the columns that its fields use
@@ -43,7 +44,8 @@ object_join-returns-clause-join t c =
     let first = c.in_ok-first.first in
     let is_first = c.in_ok-first.ensures in
     IfOk-weaker c.first_join.result _ _
-    (λ join is. object_of s g (fields_view c.args.fields.now.items) c.args.t c.args.p c.args.r c.args.next.now first.table first.number c.remote_row.new.next c.as_slice.result.now first.masks.places _ _ (join_view join)
+    (λ join is. object_of s g (fields_view c.args.fields.now.items) c.args.t c.args.p c.args.r c.args.next.now first.table first.number
+    c.remote_row.new.next c.as_slice.result.now first.masks.places _ _ (join_view join)
     is is_first.table is_first.number is_first.numbers is_first.looks is_first.joins is_first.members (c.as_slice.ensures ∙ c.in_ok-used.ensures))
     c.first_join.ensures.join
 
@@ -66,7 +68,8 @@ key_join-returns-clause-join t c =
     let first = c.in_ok-first.first in
     let is_first = c.in_ok-first.ensures in
     IfOk-weaker c.first_join.result _ _
-    (λ join is. key_of s g (fields_view c.args.fields.now.items) 0 0 c.args.table c.args.next.now first.table first.number c.key_row.new.next c.args.key.now c.as_slice.result.now first.masks.places _ _ (join_view join)
+    (λ join is. key_of s g (fields_view c.args.fields.now.items) 0 0 c.args.table c.args.next.now first.table first.number
+    c.key_row.new.next c.args.key.now c.as_slice.result.now first.masks.places _ _ (join_view join)
     is is_first.table is_first.number is_first.numbers is_first.looks is_first.joins is_first.members (c.as_slice.ensures ∙ c.in_ok-used.ensures))
     c.first_join.ensures.join
 
@@ -110,7 +113,8 @@ list_join-returns-clause-numbers t c =
     let g = context_rights c.args.context.now in
     let l = c.args.start.now in
     IfOk-weaker c.one_join.result _ _
-    (λ join is. list_numbers_of s g (fields_view c.args.fields.now.items) (start_origin l) (arguments_view l.args.now) l.row_table l.row_number c.args.next.now c.list_table-table.result c.in_ok-n.n c.list_body.new.next _
+    (λ join is. list_numbers_of s g (fields_view c.args.fields.now.items) (start_origin l) (arguments_view l.args.now) l.row_table
+    l.row_number c.args.next.now c.list_table-table.result c.in_ok-n.n c.list_body.new.next _
     c.as_slice.result.now c.as_slice-2.result.now c.in_ok-push_fields.ensures.numbers c.in_ok-body.ensures.numbers (c.as_slice-2.ensures ∙ c.in_ok-used.ensures)
     (c.as_slice.ensures ∙ c.in_ok-outs.ensures) c.list_table-table.ensures c.in_ok-n.ensures.taken)
     c.one_join.ensures
@@ -163,7 +167,9 @@ push_fields-loop-keyed-preserved t c =
       joins = rest-more (λ (ks : List KeyedAskField). fields_joins (fields_view ks) s g u p n) (λ (ks : List KeyedAskField). fields_joins (fields_view ks) s g u p m) items i k
           (map join_view old.joins.items) (map join_view new.joins.items) (field_joins f.1 s g u p n) _ c.loop-keyed.invariant.joins c.loop-keyed-test.true c.keyed-item.is
           (ap (λ (j : ℕ). field_joins f.1 s g u p n ++ fields_joins rest s g u p j) behind) c.in_ok-push_field.ensures.joins;
-      numbers = count-more (λ (ks : List KeyedAskField). fields_numbers (fields_view ks) s g u) items i k n m (field_numbers f.1 s g u) _ c.loop-keyed.invariant.numbers c.loop-keyed-test.true c.keyed-item.is
+      numbers =
+          count-more (λ (ks : List KeyedAskField). fields_numbers (fields_view ks) s g u) items i k n m (field_numbers f.1 s g u) _
+          c.loop-keyed.invariant.numbers c.loop-keyed-test.true c.keyed-item.is
           refl c.in_ok-push_field.ensures.numbers;
     }
 
@@ -191,9 +197,13 @@ push_parts-loop-keyed-preserved t c =
       pairs = rest-more (λ (ks : List KeyedAggPart). parts_values (parts_view ks) s g u a n) (λ (ks : List KeyedAggPart). parts_values (parts_view ks) s g u a m) items i k
           (map pair_view old.pairs.items) (map pair_view new.pairs.items) (pair ∷ []) _ c.loop-keyed.invariant.pairs c.loop-keyed-test.true c.keyed-item.is
           (ap (λ (j : ℕ). pair ∷ parts_values rest s g u a j) behind) c.in_ok-push_part.ensures.pairs;
-      joins = rest-more (λ (ks : List KeyedAggPart). parts_joins (parts_view ks) s g o l.row_table l.row_number a n) (λ (ks : List KeyedAggPart). parts_joins (parts_view ks) s g o l.row_table l.row_number a m) items i k
+      joins =
+          rest-more (λ (ks : List KeyedAggPart). parts_joins (parts_view ks) s g o l.row_table l.row_number a n)
+          (λ (ks : List KeyedAggPart). parts_joins (parts_view ks) s g o l.row_table l.row_number a m) items i k
           (map join_view old.joins.items) (map join_view new.joins.items) (part_joins q.1 s g o l.row_table l.row_number a n) _ c.loop-keyed.invariant.joins c.loop-keyed-test.true c.keyed-item.is
           (ap (λ (j : ℕ). part_joins q.1 s g o l.row_table l.row_number a n ++ parts_joins rest s g o l.row_table l.row_number a j) behind) c.in_ok-push_part.ensures.joins;
-      numbers = count-more (λ (ks : List KeyedAggPart). parts_numbers (parts_view ks) s g u a) items i k n m (part_numbers q.1 s g u a) _ c.loop-keyed.invariant.numbers c.loop-keyed-test.true c.keyed-item.is
+      numbers =
+          count-more (λ (ks : List KeyedAggPart). parts_numbers (parts_view ks) s g u a) items i k n m (part_numbers q.1 s g u a) _
+          c.loop-keyed.invariant.numbers c.loop-keyed-test.true c.keyed-item.is
           refl c.in_ok-push_part.ensures.numbers;
     }

@@ -10,4 +10,5 @@ pub loop-keyed-preserved : goal.loop-keyed-preserved
 loop-keyed-preserved c =
     let rest = λ (ks : List KeyedAskField). fields_used (fields_view ks) in
     let keyed = c.keyed-item.result in
-    rest-more rest rest c.deref-keyed-items.result.now c.loop-keyed.keyed-index keyed c.loop-keyed.columns c.add_keyed.new.columns (field_used (keyed_field_view keyed).1) _ c.loop-keyed.invariant c.loop-keyed-test.true c.keyed-item.is refl c.in_ok-add_keyed.ensures
+    rest-more rest rest c.deref-keyed-items.result.now c.loop-keyed.keyed-index keyed c.loop-keyed.columns c.add_keyed.new.columns
+    (field_used (keyed_field_view keyed).1) _ c.loop-keyed.invariant c.loop-keyed-test.true c.keyed-item.is refl c.in_ok-add_keyed.ensures

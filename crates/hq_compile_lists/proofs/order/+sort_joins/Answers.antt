@@ -18,6 +18,7 @@ returns-in_ok-inner-in-len1-up-clause-joins t c =
     let all = first_and_rest c.args.through.now c.r-item.result c.in-len1-up.len_at_least c.r-item.is in
     IfOk-weaker c.step_joins.result _ _
     (λ joins is. step_of s g c.args.t c.args.p c.r-item.result column next _ first.table first.number c.remote_row.new.next c.as_slice.result.now first.masks.places (map join_view joins.items) _ _ _ _
-    is c.in_ok-inner-in-len1-up.ensures.joins c.in_ok-outs-in-len1-up.ensures is_first.table is_first.number is_first.numbers is_first.looks is_first.joins is_first.members (c.as_slice.ensures ∙ c.in_ok-used-in-len1-up.ensures)
+    is c.in_ok-inner-in-len1-up.ensures.joins c.in_ok-outs-in-len1-up.ensures is_first.table is_first.number is_first.numbers is_first.looks
+    is_first.joins is_first.members (c.as_slice.ensures ∙ c.in_ok-used-in-len1-up.ensures)
     ∙ ap (λ (rs : List ℕ). sort_joins rs s g c.args.t c.args.p next column) all)
     c.step_joins.ensures

@@ -9,4 +9,6 @@ pub loop-sort-preserved : goal.loop-sort-preserved
 loop-sort-preserved c =
     let rest = λ (ks : List RowSort). used_sorts (map row_sort_view ks) in
     let sort = c.sort-item.result in
-    rest-more rest rest c.args.sorts.now c.loop-sort.sort-index sort c.loop-sort.columns c.add_used_sort.new.columns (used_by sort.own sort.through sort.column) _ c.loop-sort.invariant c.loop-sort-test.true c.sort-item.is refl c.in_ok-add_used_sort.ensures
+    rest-more rest rest c.args.sorts.now c.loop-sort.sort-index sort c.loop-sort.columns c.add_used_sort.new.columns
+    (used_by sort.own sort.through sort.column) _ c.loop-sort.invariant c.loop-sort-test.true c.sort-item.is refl
+    c.in_ok-add_used_sort.ensures

@@ -21,7 +21,8 @@ returns-clause-select c =
     let needs = c.as_slice.result.now in
     let out = c.in_ok-out.ensures ∙ ap (λ (columns : List Column). output_of columns n c.as_slice-2.result.now fs) c.columns.ensures
     ∙ ap (λ (cs : List ℕ). output_of (table s t).columns n cs fs) (c.as_slice-2.ensures ∙ sym c.as_slice.ensures) in
-    folded_of s g t n a tie fs needs _ _ _ _ c.fold.ensures (ap select_view c.in_ok-rows-2.ensures.ok ∙ c.in_ok-rows.ensures.select) out c.in_ok-alias.ensures (c.as_slice.ensures ∙ c.in_ok-needs.ensures)
+    folded_of s g t n a tie fs needs _ _ _ _ c.fold.ensures (ap select_view c.in_ok-rows-2.ensures.ok ∙ c.in_ok-rows.ensures.select) out
+    c.in_ok-alias.ensures (c.as_slice.ensures ∙ c.in_ok-needs.ensures)
 
 pub returns-clause-numbers : goal.returns-clause-numbers
 returns-clause-numbers c =

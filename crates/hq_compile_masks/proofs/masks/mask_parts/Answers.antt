@@ -39,7 +39,9 @@ loop-mask-preserved c =
       places = rest-more (λ (ms : List Mask). mask_places (used_of cs (map mask_view ms)) s t n) (λ (ms : List Mask). mask_places (used_of cs (map mask_view ms)) s t k) items i m
           old.places new.places (mask_places one s t n) _ c.loop-mask.invariant.places c.loop-mask-test.true c.mask-item.is
           (first_places cs s t p (mask_view m) rest n ∙ ap (λ (j : ℕ). mask_places one s t n ++ mask_places (used_of cs rest) s t j) behind) adds.places;
-      numbers = count-more (λ (ms : List Mask). mask_numbers (used_of cs (map mask_view ms)) s t) items i m n k (mask_numbers one s t) _ c.loop-mask.invariant.numbers c.loop-mask-test.true c.mask-item.is
+      numbers =
+          count-more (λ (ms : List Mask). mask_numbers (used_of cs (map mask_view ms)) s t) items i m n k (mask_numbers one s t) _
+          c.loop-mask.invariant.numbers c.loop-mask-test.true c.mask-item.is
           (first_numbers cs s t p (mask_view m) rest) adds.numbers;
     }
 
@@ -52,7 +54,10 @@ returns-clause-joins c =
     let p = c.args.p in
     let cs = c.args.used.now in
     let done = map join_view c.loop-mask.parts.joins.items in
-    sym (append-nil done) ∙ sym (at_drop_all (λ (ms : List Mask). done ++ mask_joins (used_of cs (map mask_view ms)) s t p c.loop-mask.next) c.masks-mask-items.result.now c.loop-mask.mask-index c.loop-mask-test.false)
+    sym (append-nil done)
+    ∙ sym
+    (at_drop_all (λ (ms : List Mask). done ++ mask_joins (used_of cs (map mask_view ms)) s t p c.loop-mask.next)
+    c.masks-mask-items.result.now c.loop-mask.mask-index c.loop-mask-test.false)
     ∙ c.loop-mask.invariant.joins ∙ ap (λ (ms : List MaskTree). mask_joins (used_of cs ms) s t p c.args.next.now) c.masks-mask-items.ensures
     ∙ ap (λ (n : ℕ). mask_joins (used_masks g t cs) s t p n) c.requires
 
@@ -64,7 +69,11 @@ returns-clause-looks c =
     let p = c.args.p in
     let cs = c.args.used.now in
     let done = c.loop-mask.parts.places in
-    let all = sym (append-nil done) ∙ sym (at_drop_all (λ (ms : List Mask). done ++ mask_places (used_of cs (map mask_view ms)) s t c.loop-mask.next) c.masks-mask-items.result.now c.loop-mask.mask-index c.loop-mask-test.false)
+    let all =
+    sym (append-nil done)
+    ∙ sym
+    (at_drop_all (λ (ms : List Mask). done ++ mask_places (used_of cs (map mask_view ms)) s t c.loop-mask.next)
+    c.masks-mask-items.result.now c.loop-mask.mask-index c.loop-mask-test.false)
     ∙ c.loop-mask.invariant.places ∙ ap (λ (ms : List MaskTree). mask_places (used_of cs ms) s t c.args.next.now) c.masks-mask-items.ensures
     ∙ ap (λ (n : ℕ). mask_places (used_masks g t cs) s t n) c.requires in
     ap (λ (ps : List MaskPlace). look_in ps (table s t).columns p) all ∙ places_are_look (used_masks g t cs) s t p (p + 1)

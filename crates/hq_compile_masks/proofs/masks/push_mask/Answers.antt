@@ -31,7 +31,8 @@ returns-then-is_used-clause-numbers c =
 -- of one whose column is not, there is nothing
 pub returns-else-is_used-clause-joins : goal.returns-else-is_used-clause-joins
 returns-else-is_used-clause-joins c =
-    no_joins c.args.used.now (context_schema c.args.context.now) c.args.t c.args.p (mask_view c.args.mask.now) c.args.next.now (map join_view c.args.parts.now.joins.items) (sym c.is_used.ensures ∙ c.if-is_used.false)
+    no_joins c.args.used.now (context_schema c.args.context.now) c.args.t c.args.p (mask_view c.args.mask.now) c.args.next.now
+    (map join_view c.args.parts.now.joins.items) (sym c.is_used.ensures ∙ c.if-is_used.false)
 
 pub returns-else-is_used-clause-places : goal.returns-else-is_used-clause-places
 returns-else-is_used-clause-places c =

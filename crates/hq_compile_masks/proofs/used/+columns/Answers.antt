@@ -10,4 +10,5 @@ pub add_all-loop-bexp-preserved : goal.add_all-loop-bexp-preserved
 add_all-loop-bexp-preserved t c =
     let rest = λ (bs : List Bexp). columns_in_all (bexps_of (map bexp_view bs)) in
     let b = c.bexp-item.result in
-    rest-more rest rest c.deref-bexp-items.result.now c.loop-bexp.bexp-index b c.loop-bexp.columns c.add_columns.new.columns (columns_in (bexp_view b)) _ c.loop-bexp.invariant c.loop-bexp-test.true c.bexp-item.is refl c.in_ok-add_columns.ensures
+    rest-more rest rest c.deref-bexp-items.result.now c.loop-bexp.bexp-index b c.loop-bexp.columns c.add_columns.new.columns
+    (columns_in (bexp_view b)) _ c.loop-bexp.invariant c.loop-bexp-test.true c.bexp-item.is refl c.in_ok-add_columns.ensures

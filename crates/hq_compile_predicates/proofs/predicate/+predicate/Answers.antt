@@ -63,7 +63,11 @@ predicates-loop-bexp-preserved g t c =
     let next = c.loop-bexp.next in
     let head = predicate (bexp_view b) s m look c.args.t c.args.p next in
     record {
-      predicates = viewed_rest-more pred_view (from next) (from c.predicate_of.new.next) bexps i b c.loop-bexp.preds.items c.push.new.self.items c.in_ok-predicate_of.field-0 head _ c.loop-bexp.invariant.predicates c.loop-bexp-test.true c.bexp-item.is
+      predicates =
+          viewed_rest-more pred_view (from next) (from c.predicate_of.new.next) bexps i b c.loop-bexp.preds.items c.push.new.self.items
+          c.in_ok-predicate_of.field-0 head _ c.loop-bexp.invariant.predicates c.loop-bexp-test.true c.bexp-item.is
           (ap (λ (n : ℕ). head ∷ from n (drop (i + 1) bexps)) (sym c.in_ok-predicate_of.ensures.numbers)) c.in_ok-predicate_of.ensures.predicate c.in_ok-push.ensures.items;
-      numbers = count-more count bexps i b next c.predicate_of.new.next (numbers (bexp_view b) s m c.args.t) _ c.loop-bexp.invariant.numbers c.loop-bexp-test.true c.bexp-item.is refl c.in_ok-predicate_of.ensures.numbers;
+      numbers =
+          count-more count bexps i b next c.predicate_of.new.next (numbers (bexp_view b) s m c.args.t) _ c.loop-bexp.invariant.numbers
+          c.loop-bexp-test.true c.bexp-item.is refl c.in_ok-predicate_of.ensures.numbers;
     }

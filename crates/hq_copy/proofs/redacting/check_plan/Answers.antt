@@ -9,7 +9,8 @@ pub returns-in_err-check_kept_names : goal.returns-in_err-check_kept_names
 returns-in_err-check_kept_names c =
     let o = c.args.original.now in
     let told =
-    own_told (role_in o) (meta_in o) (schema_in o) (map source_view o.sources.now) c.as_slice-tables.result.now (meta_view c.args.meta.now) c.requires.original.seen (c.as_slice-tables.ensures ∙ c.requires.tables) c.requires.meta
+    own_told (role_in o) (meta_in o) (schema_in o) (map source_view o.sources.now) c.as_slice-tables.result.now (meta_view c.args.meta.now)
+    c.requires.original.seen (c.as_slice-tables.ensures ∙ c.requires.tables) c.requires.meta
     c.in_err-check_kept_names.field-0.0 c.in_err-check_kept_names.ensures in
     search rules
 
@@ -17,7 +18,8 @@ pub returns-in_err-check_schema_names : goal.returns-in_err-check_schema_names
 returns-in_err-check_schema_names c =
     let o = c.args.original.now in
     let told =
-    names_told (role_in o) (meta_in o) (schema_in o) (map source_view o.sources.now) c.as_slice-tables.result.now (meta_view c.args.meta.now) c.requires.original.seen (c.as_slice-tables.ensures ∙ c.requires.tables) c.requires.meta
+    names_told (role_in o) (meta_in o) (schema_in o) (map source_view o.sources.now) c.as_slice-tables.result.now
+    (meta_view c.args.meta.now) c.requires.original.seen (c.as_slice-tables.ensures ∙ c.requires.tables) c.requires.meta
     c.in_err-check_schema_names.field-0.0 c.in_ok-check_kept_names.ensures c.in_err-check_schema_names.ensures in
     search rules
 
@@ -25,12 +27,14 @@ pub returns-in_err-check_keys : goal.returns-in_err-check_keys
 returns-in_err-check_keys c =
     let o = c.args.original.now in
     let told =
-    keys_told (role_in o) (meta_in o) (schema_in o) (map source_view o.sources.now) c.as_slice-tables.result.now (meta_view c.args.meta.now) c.requires.original.seen (c.as_slice-tables.ensures ∙ c.requires.tables) c.requires.meta
+    keys_told (role_in o) (meta_in o) (schema_in o) (map source_view o.sources.now) c.as_slice-tables.result.now (meta_view c.args.meta.now)
+    c.requires.original.seen (c.as_slice-tables.ensures ∙ c.requires.tables) c.requires.meta
     c.in_err-check_keys.field-0.0 c.in_ok-check_kept_names.ensures c.in_ok-check_schema_names.ensures c.in_err-check_keys.ensures in
     search rules
 
 pub returns : goal.returns
 returns c =
     let o = c.args.original.now in
-    widths_left (role_in o) (meta_in o) (schema_in o) (map source_view o.sources.now) c.as_slice-tables.result.now (meta_view c.args.meta.now) c.requires.original.seen (c.as_slice-tables.ensures ∙ c.requires.tables) c.requires.meta
+    widths_left (role_in o) (meta_in o) (schema_in o) (map source_view o.sources.now) c.as_slice-tables.result.now
+    (meta_view c.args.meta.now) c.requires.original.seen (c.as_slice-tables.ensures ∙ c.requires.tables) c.requires.meta
     c.check_widths.result c.in_ok-check_kept_names.ensures c.in_ok-check_schema_names.ensures c.in_ok-check_keys.ensures c.check_widths.ensures

@@ -25,7 +25,9 @@ returns-clause-plan c =
     let o = c.args.original.now in record {
       tables = c.in_ok-tables.ensures;
       meta = c.in_ok-meta.ensures;
-      granted = granted_is (role_in o) (meta_in o) (schema_in o) c.args.session.now.vars (map source_view o.sources.now) c.requires.seen (map permission_view c.in_ok-grants.grants) c.in_ok-grants.ensures;
+      granted =
+          granted_is (role_in o) (meta_in o) (schema_in o) c.args.session.now.vars (map source_view o.sources.now) c.requires.seen
+          (map permission_view c.in_ok-grants.grants) c.in_ok-grants.ensures;
       described = c.in_ok-check_plan.ensures;
     }
 

@@ -12,5 +12,7 @@ use Rattle.hq_copy.proofs.row.copied_rows.Given as goal
 abbrev pub invariant-loop-at : goal.invariant-loop-at
 invariant-loop-at l =
     let o = l.world.original.now in
-    let row = direct_row (role_in o) (meta_in o) (schema_in o) (database_of l.world.tables.now) (permission_view l.permission) (rows_for (map source_view o.sources.now) (lists_of l.world.permitted.now)) (source_view l.source) in
+    let row =
+    direct_row (role_in o) (meta_in o) (schema_in o) (database_of l.world.tables.now) (permission_view l.permission)
+    (rows_for (map source_view o.sources.now) (lists_of l.world.permitted.now)) (source_view l.source) in
     l.all ++ numbered row l.at (rows_of (drop l.at l.rows)) ≡ numbered row 0 (rows_of l.rows)

@@ -7,7 +7,11 @@ use Rattle.hq_copy_filter.proofs.cells.are_equal.Goals as goal
 pub returns-in-Some : goal.returns-in-Some
 returns-in-Some c =
     let own = row_cell c.args.row.now c.args.pair.own in
-    c.equals_cell.ensures ∙ ap (λ d. is_true (equal d own)) (sym (cell_there c.args.far.now c.at.result c.args.pair.remote c.in-Some.value.now c.at.ensures c.in-Some.ensures.lookup.3.0 c.in-Some.ensures.lookup.1))
+    c.equals_cell.ensures
+    ∙ ap (λ d. is_true (equal d own))
+    (sym
+    (cell_there c.args.far.now c.at.result c.args.pair.remote c.in-Some.value.now c.at.ensures c.in-Some.ensures.lookup.3.0
+    c.in-Some.ensures.lookup.1))
 
 pub returns-in-None : goal.returns-in-None
 returns-in-None c =

@@ -9,4 +9,5 @@ use Rattle.hq_copy_filter.proofs.permitted.sort_rows.Goals as goal
 pub returns : goal.returns
 returns c =
     sorted_rows c.args.columns.now c.args.rows.now.items _
-    (sorted_by_closure (columns_cmp_total c.args.columns.now) (λ (row : Bor Row). row.now) c.args.rows.now.items _ c.in_ok-sort_by.ensures.sorted c.in_ok-sort_by.ensures.stable (λ a r f' k. search rules))
+    (sorted_by_closure (columns_cmp_total c.args.columns.now) (λ (row : Bor Row). row.now) c.args.rows.now.items _
+    c.in_ok-sort_by.ensures.sorted c.in_ok-sort_by.ensures.stable (λ a r f' k. search rules))

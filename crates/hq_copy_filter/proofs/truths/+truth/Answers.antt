@@ -47,4 +47,8 @@ pub related-returns : goal.related-returns
 related-returns t c =
     let s = scope_schema c.args.scope.now in
     let d = database_of c.args.tables.now in
-    IfOk-weaker c.some_row.result _ _ (λ found h. h ∙ ap₂ (λ (u : ℕ) (ps : List Pair). truth_of (some_kept (bexp_view c.args.bexp.now) s d u ps c.args.row.now)) c.remote-remote.ensures c.pairs_of-pairs.ensures) c.some_row.ensures
+    IfOk-weaker c.some_row.result _ _
+    (λ found h. h
+    ∙ ap₂ (λ (u : ℕ) (ps : List Pair). truth_of (some_kept (bexp_view c.args.bexp.now) s d u ps c.args.row.now))
+    c.remote-remote.ensures c.pairs_of-pairs.ensures)
+    c.some_row.ensures

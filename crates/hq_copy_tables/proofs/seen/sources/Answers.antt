@@ -18,5 +18,7 @@ loop-entry-preserved c =
     let rest = in_order (drop (i + 1) items) in
     let done = map source_view c.loop-entry.all.items in
     ap (λ l. l ++ rest) c.in_ok-push_source.ensures ∙ append_assoc done (with_source k _ []) rest
-    ∙ ap (λ l. done ++ l) (sym (with_source_front k _ rest) ∙ ap (λ p. with_source k p rest) c.in_ok-perm.ensures ∙ ap in_order (sym (next_item items i c.entry-item.result c.loop-entry-test.true c.entry-item.is)))
+    ∙ ap (λ l. done ++ l)
+    (sym (with_source_front k _ rest) ∙ ap (λ p. with_source k p rest) c.in_ok-perm.ensures
+    ∙ ap in_order (sym (next_item items i c.entry-item.result c.loop-entry-test.true c.entry-item.is)))
     ∙ c.loop-entry.invariant

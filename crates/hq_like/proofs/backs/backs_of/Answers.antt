@@ -13,7 +13,8 @@ loop-at-preserved c =
     let lt : at < length letters = omega arith in
     let some : 0 < at = omega arith in
     let letter : c.index-letters-at.result ≡ get_or letters at 0 = c.index-letters-at.is ∙ get_or_default letters at c.index-letters-at.result 0 lt in
-    let reads : Reads letters (take c.loop-at.state letters ++ get_or letters at 0 ∷ []) next = subst (λ x. Reads letters (take c.loop-at.state letters ++ x ∷ []) next) letter c.advanced-state.ensures.reads in
+    let reads : Reads letters (take c.loop-at.state letters ++ get_or letters at 0 ∷ []) next =
+    subst (λ x. Reads letters (take c.loop-at.state letters ++ x ∷ []) next) letter c.advanced-state.ensures.reads in
     let is : IsBack letters (at + 1) next = back_more letters at c.loop-at.state next some lt old.last c.advanced-state.ensures.within reads in
     let many : length c.loop-at.backs.items ≡ at + 1 = omega (arith, old.many, c.loop-at.backs.ok.0) in
     record {

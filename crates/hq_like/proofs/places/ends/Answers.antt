@@ -12,7 +12,9 @@ pub returns-in-Some : goal.returns-in-Some
 returns-in-Some c =
     let le : length c.args.places.now ≤ c.number-all.result = omega arith in
     c.at_end.ensures
-    ∙ sym (text_end c.args.fold c.args.text.now c.behind.result.now c.args.places.now c.number-all.result (Some (read c.args.fold c.in-Some.rest.now)) c.number-all.ensures le c.behind.ensures c.in-Some.ensures)
+    ∙ sym
+    (text_end c.args.fold c.args.text.now c.behind.result.now c.args.places.now c.number-all.result
+    (Some (read c.args.fold c.in-Some.rest.now)) c.number-all.ensures le c.behind.ensures c.in-Some.ensures)
 
 pub returns-in-None : goal.returns-in-None
 returns-in-None c =

@@ -11,7 +11,8 @@ pub ends-preserved : goal.ends-preserved
 ends-preserved c = (
   (search rules),
   λ later. c.ends.invariant.1 later
-      ∙ missed_first c.args.places.now later (read c.args.fold c.ends.left.now) c.in-Some-read_first.field-0-0 (read c.args.fold c.in-Some-read_first.later.now) c.in-Some-read_first.ensures c.in-None.ensures,
+      ∙ missed_first c.args.places.now later (read c.args.fold c.ends.left.now) c.in-Some-read_first.field-0-0
+      (read c.args.fold c.in-Some-read_first.later.now) c.in-Some-read_first.ensures c.in-None.ensures,
 )
 
 pub returns-in-None-read_first : goal.returns-in-None-read_first

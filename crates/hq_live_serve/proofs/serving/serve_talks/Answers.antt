@@ -25,7 +25,8 @@ returns-in-Err-clause-serves g c =
     serves_unwritten (g.P.HookRule.allows c.args.hook.now.rule) (record { left = g.H.Talk.Messages.left; sent = g.H.Talk.Messages.sent; faults = g.H.Talk.Messages.faults }) c.talks.served
     (standing (due first.asker) (next first.asker) (faults first.asker) first.subscriptions.items) (standing (due now.asker) (next now.asker) (faults now.asker) now.subscriptions.items)
     (standing (due last.asker) (next last.asker) (faults last.asker) last.subscriptions.items)
-    (g.H.Hall.accepted c.args.hall.now) (g.H.Hall.accepted c.talks.hall) (g.H.Hall.accepted c.talk_next.new.hall) (g.H.Hall.talks c.args.hall.now) (g.H.Hall.talks c.talks.hall) (g.H.Hall.talks c.talk_next.new.hall)
+    (g.H.Hall.accepted c.args.hall.now) (g.H.Hall.accepted c.talks.hall) (g.H.Hall.accepted c.talk_next.new.hall)
+    (g.H.Hall.talks c.args.hall.now) (g.H.Hall.talks c.talks.hall) (g.H.Hall.talks c.talk_next.new.hall)
     (g.K.Sink.written c.args.out.now) (g.K.Sink.written c.talks.out) (g.K.Sink.written c.write_line.new.out) c.in-Ok.end
     c.talks.invariant.held c.in-Ok.ensures.holds c.args.connections c.in-Err.refusal c.talks-test.true c.in-Err.ensures.wrote
 
@@ -41,7 +42,8 @@ talks-preserved g c =
       held = held_more (g.P.HookRule.allows c.args.hook.now.rule) (record { left = g.H.Talk.Messages.left; sent = g.H.Talk.Messages.sent; faults = g.H.Talk.Messages.faults }) c.talks.served
           (standing (due first.asker) (next first.asker) (faults first.asker) first.subscriptions.items) (standing (due now.asker) (next now.asker) (faults now.asker) now.subscriptions.items)
           (standing (due last.asker) (next last.asker) (faults last.asker) last.subscriptions.items)
-          (g.H.Hall.accepted c.args.hall.now) (g.H.Hall.accepted c.talks.hall) (g.H.Hall.accepted c.talk_next.new.hall) (g.H.Hall.talks c.args.hall.now) (g.H.Hall.talks c.talks.hall) (g.H.Hall.talks c.talk_next.new.hall)
+          (g.H.Hall.accepted c.args.hall.now) (g.H.Hall.accepted c.talks.hall) (g.H.Hall.accepted c.talk_next.new.hall)
+          (g.H.Hall.talks c.args.hall.now) (g.H.Hall.talks c.talks.hall) (g.H.Hall.talks c.talk_next.new.hall)
           (g.K.Sink.written c.args.out.now) (g.K.Sink.written c.talks.out) (g.K.Sink.written c.write_line.new.out) c.in-Ok.end
           c.talks.invariant.held c.in-Ok.ensures.holds c.in-Ok-write_line.ensures.ok;
       none = search rules;

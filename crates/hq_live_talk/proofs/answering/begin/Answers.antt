@@ -14,7 +14,10 @@ returns-in-Ok-clause-begins g c = λ (kept : Option Session).
     let faults = g.A.Asker.faults in
     let s : Talk = talk_of kept c.args.once.now.items (standing (due c.args.live.now.asker) (next c.args.live.now.asker) (faults c.args.live.now.asker) c.args.live.now.subscriptions.items) in
     let mid : Standing = standing (due c.step.new.live.asker) (next c.step.new.live.asker) (faults c.step.new.live.asker) c.step.new.live.subscriptions.items in
-    let t : Talk = talk_of kept c.tell_all.new.once.items (standing (due c.tell_all.new.live.asker) (next c.tell_all.new.live.asker) (faults c.tell_all.new.live.asker) c.tell_all.new.live.subscriptions.items) in
+    let t : Talk =
+    talk_of kept c.tell_all.new.once.items
+    (standing (due c.tell_all.new.live.asker) (next c.tell_all.new.live.asker) (faults c.tell_all.new.live.asker)
+    c.tell_all.new.live.subscriptions.items) in
     let told = c.in_ok-tell_all-in-Ok.ensures in
     begins_sent c.args.who c.args.id c.in_ok-name.name c.args.is_lasting c.args.once.now.items c.keep.new.once.items
     (event.Subscribe c.args.who c.args.id c.args.session c.args.body) s t mid c.in-Ok.sends c.as_slice.result.now c.new-texts.result.items c.tell_all.new.texts.items
@@ -31,7 +34,8 @@ returns-in-Err-TooMany-clause-begins g c = λ (kept : Option Session).
       many.1,
       (
         record { session = refl; once = refl; live = e.stays },
-        too_many_text c.args.id c.in_ok-name.name c.in_ok-text-in-Err-TooMany.text c.in_ok-told-in-Err-TooMany.told.items c.in_ok-name.ensures c.in_ok-text-in-Err-TooMany.ensures c.in_ok-told-in-Err-TooMany.ensures,
+        too_many_text c.args.id c.in_ok-name.name c.in_ok-text-in-Err-TooMany.text c.in_ok-told-in-Err-TooMany.told.items
+            c.in_ok-name.ensures c.in_ok-text-in-Err-TooMany.ensures c.in_ok-told-in-Err-TooMany.ensures,
         refl,
       ),
     ))

@@ -18,4 +18,6 @@ pub returns-clause-own : goal.returns-clause-own
 returns-clause-own g c =
     let s : Standing = standing (g.A.Asker.due c.args.live.now.asker) (g.A.Asker.next c.args.live.now.asker) (g.A.Asker.faults c.args.live.now.asker) c.args.live.now.subscriptions.items in
     let t : Standing = standing (g.A.Asker.due c.step.new.self.asker) (g.A.Asker.next c.step.new.self.asker) (g.A.Asker.faults c.step.new.self.asker) c.step.new.self.subscriptions.items in
-    own_by c.args.who c.args.event s t c.step.result c.requires (passes_by c.args.event s t c.step.result c.step.ensures.ok c.step.ensures.repeated c.step.ensures.too_many c.step.ensures.asker) c.step.ensures.err
+    own_by c.args.who c.args.event s t c.step.result c.requires
+    (passes_by c.args.event s t c.step.result c.step.ensures.ok c.step.ensures.repeated c.step.ensures.too_many c.step.ensures.asker)
+    c.step.ensures.err

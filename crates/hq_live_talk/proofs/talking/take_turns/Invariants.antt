@@ -9,7 +9,9 @@ use Rattle.hq_live_talk.proofs.talking.take_turns.Given as goal
 abbrev pub invariant-turns : goal.invariant-turns
 invariant-turns g l = record {
   ran : (messages : List In) × (length messages ≡ l.done) × Ran (g.P.HookRule.allows l.hook.rule) l.who
-      (talk_of l.fn.talking.session l.fn.talking.once.items (standing (g.A.Asker.due l.fn.live.asker) (g.A.Asker.next l.fn.live.asker) (g.A.Asker.faults l.fn.live.asker) l.fn.live.subscriptions.items))
+      (talk_of l.fn.talking.session l.fn.talking.once.items
+      (standing (g.A.Asker.due l.fn.live.asker) (g.A.Asker.next l.fn.live.asker) (g.A.Asker.faults l.fn.live.asker)
+      l.fn.live.subscriptions.items))
       (talk_of l.talking.session l.talking.once.items (standing (g.A.Asker.due l.live.asker) (g.A.Asker.next l.live.asker) (g.A.Asker.faults l.live.asker) l.live.subscriptions.items))
       (link_of (g.M.Messages.left l.fn.link) (g.M.Messages.sent l.fn.link)) (link_of (g.M.Messages.left l.link) (g.M.Messages.sent l.link)) messages;
   later : g.M.Messages.faults l.fn.link ≤ g.M.Messages.faults l.link;

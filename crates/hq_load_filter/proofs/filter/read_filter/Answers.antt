@@ -18,7 +18,9 @@ returns-clause-fits c =
     let d = meta_view c.args.meta.now in
     let due = filter_due (json_view c.args.json.now) tables d c.args.t c.args.path.now in
     ok_gives bexp_view Memory due (λ b. is_filter b (schema_of tables d) c.args.t ≡ true) c.filter.result
-    (ok_weaker due (Good (2 * nesting (json_view c.args.json.now)) tables d c.args.t) (λ b. is_filter b (schema_of tables d) c.args.t ≡ true) (λ b h. h.is) (filter_good (json_view c.args.json.now) tables d c.args.t c.args.path.now))
+    (ok_weaker due (Good (2 * nesting (json_view c.args.json.now)) tables d c.args.t)
+    (λ b. is_filter b (schema_of tables d) c.args.t ≡ true) (λ b h. h.is)
+    (filter_good (json_view c.args.json.now) tables d c.args.t c.args.path.now))
     c.filter.ensures
 
 pub returns-clause-tracked : goal.returns-clause-tracked
@@ -27,7 +29,8 @@ returns-clause-tracked c =
     let d = meta_view c.args.meta.now in
     let due = filter_due (json_view c.args.json.now) tables d c.args.t c.args.path.now in
     ok_gives bexp_view Memory due (λ b. asks_tracked d b ≡ true) c.filter.result
-    (ok_weaker due (Good (2 * nesting (json_view c.args.json.now)) tables d c.args.t) (λ b. asks_tracked d b ≡ true) (λ b h. h.tracked) (filter_good (json_view c.args.json.now) tables d c.args.t c.args.path.now))
+    (ok_weaker due (Good (2 * nesting (json_view c.args.json.now)) tables d c.args.t) (λ b. asks_tracked d b ≡ true) (λ b h. h.tracked)
+    (filter_good (json_view c.args.json.now) tables d c.args.t c.args.path.now))
     c.filter.ensures
 
 pub returns-clause-shallow : goal.returns-clause-shallow
@@ -36,5 +39,7 @@ returns-clause-shallow c =
     let d = meta_view c.args.meta.now in
     let due = filter_due (json_view c.args.json.now) tables d c.args.t c.args.path.now in
     ok_gives bexp_view Memory due (λ b. depth b ≤ 2 * nesting (json_view c.args.json.now)) c.filter.result
-    (ok_weaker due (Good (2 * nesting (json_view c.args.json.now)) tables d c.args.t) (λ b. depth b ≤ 2 * nesting (json_view c.args.json.now)) (λ b h. h.shallow) (filter_good (json_view c.args.json.now) tables d c.args.t c.args.path.now))
+    (ok_weaker due (Good (2 * nesting (json_view c.args.json.now)) tables d c.args.t)
+    (λ b. depth b ≤ 2 * nesting (json_view c.args.json.now)) (λ b h. h.shallow)
+    (filter_good (json_view c.args.json.now) tables d c.args.t c.args.path.now))
     c.filter.ensures

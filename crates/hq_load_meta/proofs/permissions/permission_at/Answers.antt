@@ -15,5 +15,8 @@ returns-clause-sound c =
     record {
       is = rw c.into_inner.ensures c.in_ok-filter.ensures.is;
       tracked = rw c.into_inner.ensures c.in_ok-filter.ensures.tracked;
-      shallow = rw c.into_inner.ensures (shallow_filter (depth (bexp_view c.in_ok-filter.filter.value)) (nesting (json_view c.in_ok-written.written.now)) (nesting object) c.in_ok-filter.ensures.shallow below c.requires);
+      shallow =
+          rw c.into_inner.ensures
+          (shallow_filter (depth (bexp_view c.in_ok-filter.filter.value)) (nesting (json_view c.in_ok-written.written.now))
+          (nesting object) c.in_ok-filter.ensures.shallow below c.requires);
     }

@@ -39,8 +39,12 @@ pieces-preserved g c =
     let some : 0 < length c.pieces.rest.now = search rules in
     let pages = so_far.grown in
     let page = next_pages c.args.table c.pieces.piece pages.1 pages.0 c.pieces.rest.now front behind (run_pages c.args.table c.args.run.now) some pages.2 cut_at cut_behind pages.3 in
-    let grown = grows_more (g.K.Disk.held c.args.disk.now) (g.K.Disk.held c.pieces.disk) (g.K.Disk.held c.write_page.new.disk) pages.0 (page_bytes c.args.table c.pieces.piece front) pages.4 c.in_ok-write_page.ensures.grown in
-    let one : length c.write_page.new.dues.items - length c.args.dues.now.items ≡ (length c.pieces.dues.items - length c.args.dues.now.items) + 1 = omega (arith, so_far.count, c.in_ok-write_page.ensures.count) in
+    let grown =
+    grows_more (g.K.Disk.held c.args.disk.now) (g.K.Disk.held c.pieces.disk) (g.K.Disk.held c.write_page.new.disk) pages.0
+    (page_bytes c.args.table c.pieces.piece front) pages.4 c.in_ok-write_page.ensures.grown in
+    let one : length c.write_page.new.dues.items - length c.args.dues.now.items
+    ≡ (length c.pieces.dues.items - length c.args.dues.now.items) + 1 =
+    omega (arith, so_far.count, c.in_ok-write_page.ensures.count) in
     let next : Rises (g.K.Disk.calls c.pieces.disk) (g.K.Disk.calls c.write_page.new.disk) 1 = c.in_ok-write_page.ensures.calls in
     record {
       number = search rules;
@@ -50,11 +54,15 @@ pieces-preserved g c =
       wrote = (
         done ++ front,
         append_assoc done front behind ∙ ap (λ xs. done ++ xs) parts ∙ so_far.wrote.1,
-        wrote_more (g.K.Disk.held c.args.disk.now) (g.K.Disk.held c.pieces.disk) (g.K.Disk.held c.write_page.new.disk) c.args.dues.now.items c.pieces.dues.items c.write_page.new.dues.items done front so_far.wrote.2 c.in_ok-write_page.ensures.wrote,
+        wrote_more (g.K.Disk.held c.args.disk.now) (g.K.Disk.held c.pieces.disk) (g.K.Disk.held c.write_page.new.disk) c.args.dues.now.items
+            c.pieces.dues.items c.write_page.new.dues.items done front so_far.wrote.2 c.in_ok-write_page.ensures.wrote,
       );
       grown = (pages.0 ++ page_bytes c.args.table c.pieces.piece front, pages.1 - 1, page.0, page.1, grown);
       told = c.in_ok-write_page.ensures.told ∙ so_far.told;
-      calls = rw one (rises_more (g.K.Disk.calls c.args.disk.now) (g.K.Disk.calls c.pieces.disk) (g.K.Disk.calls c.write_page.new.disk) (length c.pieces.dues.items - length c.args.dues.now.items) 1 so_far.calls next);
+      calls =
+          rw one
+          (rises_more (g.K.Disk.calls c.args.disk.now) (g.K.Disk.calls c.pieces.disk) (g.K.Disk.calls c.write_page.new.disk)
+          (length c.pieces.dues.items - length c.args.dues.now.items) 1 so_far.calls next);
       later = search rules;
     }
 

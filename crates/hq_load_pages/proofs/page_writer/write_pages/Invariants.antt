@@ -13,7 +13,9 @@ invariant-pieces g l = record {
   count : length l.fn.dues.items ≤ length l.dues.items;
   few : length l.dues.items ≤ 2 ^ 51;
   wrote : (done : List ℕ) × (done ++ l.rest ≡ l.run) × WhereTold (g.K.Disk.held l.disk) (Wrote (g.K.Disk.held l.fn.disk) l.fn.dues.items l.dues.items done);
-  grown : (pages : List ℕ) × (most : ℕ) × (length l.rest ≤ most) × (pages ++ pages_from l.table l.piece most l.rest ≡ run_pages l.table l.run) × Grows (g.K.Disk.held l.fn.disk) (g.K.Disk.held l.disk) pages;
+  grown : (pages : List ℕ) × (most : ℕ) × (length l.rest ≤ most)
+      × (pages ++ pages_from l.table l.piece most l.rest ≡ run_pages l.table l.run)
+      × Grows (g.K.Disk.held l.fn.disk) (g.K.Disk.held l.disk) pages;
   told : is_some (g.K.Disk.held l.disk) ≡ is_some (g.K.Disk.held l.fn.disk);
   calls : Rises (g.K.Disk.calls l.fn.disk) (g.K.Disk.calls l.disk) (length l.dues.items - length l.fn.dues.items);
   later : g.K.Disk.faults l.fn.disk ≤ g.K.Disk.faults l.disk;

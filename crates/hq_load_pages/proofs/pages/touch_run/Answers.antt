@@ -12,15 +12,20 @@ pages-preserved g c =
     let cap = c.args.pieces.now.cap in
     let so_far = c.pages.invariant in
     let touched = next_touched c.args.first c.pages.done cap old now (keys_of c.touch_page.new.pieces.entries) so_far.cached (search rules) in
-    let calls = next_calls (g.K.Disk.calls c.args.disk.now) (g.K.Disk.calls c.pages.disk) (g.K.Disk.calls c.touch_page.new.disk) c.args.first c.pages.done cap old now so_far.cached so_far.calls (search rules) in
-    let run = next_run c.args.dues.now told c.args.first c.pages.done c.args.count c.pages.run.items c.append.new.run.items c.in_ok-piece.piece.items (search rules) (search rules) (search rules) so_far.run in
+    let calls =
+    next_calls (g.K.Disk.calls c.args.disk.now) (g.K.Disk.calls c.pages.disk) (g.K.Disk.calls c.touch_page.new.disk) c.args.first
+    c.pages.done cap old now so_far.cached so_far.calls (search rules) in
+    let run =
+    next_run c.args.dues.now told c.args.first c.pages.done c.args.count c.pages.run.items c.append.new.run.items
+    c.in_ok-piece.piece.items (search rules) (search rules) (search rules) so_far.run in
     record { within = search rules; cap = search rules; cached = touched; calls = calls; run = run; pieces = search rules; held = search rules; later = search rules }
 
 -- a page that is refused
 pub returns-in_err-piece-clause-refused : goal.returns-in_err-piece-clause-refused
 returns-in_err-piece-clause-refused g c =
     on_err c.from_residual.result
-    (refused_at c.args.first c.pages.done c.args.pieces.now.cap c.args.count (keys_of c.args.pieces.now.entries) (keys_of c.pages.pieces.entries) (keys_of c.touch_page.new.pieces.entries) (search rules) c.pages.invariant.cached (search rules))
+    (refused_at c.args.first c.pages.done c.args.pieces.now.cap c.args.count (keys_of c.args.pieces.now.entries)
+    (keys_of c.pages.pieces.entries) (keys_of c.touch_page.new.pieces.entries) (search rules) c.pages.invariant.cached (search rules))
 
 -- a page that is not due
 pub returns-in_err-piece-clause-broken : goal.returns-in_err-piece-clause-broken
@@ -32,4 +37,6 @@ returns-in_err-piece-clause-broken g c =
 pub returns-in_err-append-clause-refused : goal.returns-in_err-append-clause-refused
 returns-in_err-append-clause-refused g c =
     on_err c.from_residual-in_err-append.result
-    (refused_at c.args.first c.pages.done c.args.pieces.now.cap c.args.count (keys_of c.args.pieces.now.entries) (keys_of c.pages.pieces.entries) (keys_of c.touch_page.new.pieces.entries) (search rules) c.pages.invariant.cached (inr (search rules)))
+    (refused_at c.args.first c.pages.done c.args.pieces.now.cap c.args.count (keys_of c.args.pieces.now.entries)
+    (keys_of c.pages.pieces.entries) (keys_of c.touch_page.new.pieces.entries) (search rules) c.pages.invariant.cached
+    (inr (search rules)))

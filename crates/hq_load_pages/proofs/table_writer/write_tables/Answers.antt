@@ -12,7 +12,9 @@ bounds-all-at g c =
 
 -- and they are valid for it
 pub write_table-requires-clause-valid : goal.write_table-requires-clause-valid
-write_table-requires-clause-valid g c = rows_at c.args.tables.now c.args.all.now c.tables.at c.index-tables-at.result c.index-all-at.result c.requires.valid (search rules) c.index-tables-at.is c.index-all-at.is
+write_table-requires-clause-valid g c =
+    rows_at c.args.tables.now c.args.all.now c.tables.at c.index-tables-at.result c.index-all-at.result c.requires.valid (search rules)
+    c.index-tables-at.is c.index-all-at.is
 
 -- a table more is stored
 pub tables-preserved : goal.tables-preserved
@@ -29,9 +31,14 @@ tables-preserved g c =
     let sum : old + (new - old) ≡ new = omega (arith, wrote.count) in
     let within : run.first + run.pages ≤ new = omega (arith, wrote.pages) in
     let inside = inside_more old new c.tables.runs.items run so_far.inside wrote.count within wrote.rows in
-    let stored = stores_next (g.K.Disk.held c.tables.disk) (g.K.Disk.held c.write_table.new.disk) c.tables.dues.items c.write_table.new.dues.items c.tables.runs.items c.args.tables.now c.args.all.now c.tables.at c.index-tables-at.result run c.index-all-at.result below there c.index-tables-at.is c.index-all-at.is so_far.stored wrote.wrote wrote.first wrote.pages in
+    let stored =
+    stores_next (g.K.Disk.held c.tables.disk) (g.K.Disk.held c.write_table.new.disk) c.tables.dues.items c.write_table.new.dues.items
+    c.tables.runs.items c.args.tables.now c.args.all.now c.tables.at c.index-tables-at.result run c.index-all-at.result below there
+    c.index-tables-at.is c.index-all-at.is so_far.stored wrote.wrote wrote.first wrote.pages in
     let calls = rises_more (g.K.Disk.calls c.args.disk.now) (g.K.Disk.calls c.tables.disk) (g.K.Disk.calls c.write_table.new.disk) old (new - old) so_far.calls wrote.calls in
-    let grown = next_table (g.K.Disk.held c.args.disk.now) (g.K.Disk.held c.tables.disk) (g.K.Disk.held c.write_table.new.disk) c.args.all.now c.tables.at c.index-all-at.result there c.index-all-at.is so_far.grown wrote.grown in
+    let grown =
+    next_table (g.K.Disk.held c.args.disk.now) (g.K.Disk.held c.tables.disk) (g.K.Disk.held c.write_table.new.disk) c.args.all.now
+    c.tables.at c.index-all-at.result there c.index-all-at.is so_far.grown wrote.grown in
     record {
       within = search rules;
       size = search rules;
@@ -57,4 +64,5 @@ pub returns-clause-bytes : goal.returns-clause-bytes
 returns-clause-bytes g c =
     let many = as_many c.args.tables.now c.args.all.now c.requires.valid in
     let end : length c.args.tables.now ≤ c.tables.at = search rules in
-    all_pages (g.K.Disk.held c.args.disk.now) (g.K.Disk.held c.tables.disk) c.args.all.now c.tables.at (g.K.Disk.size c.args.disk.now) (g.met.K.Disk.told_size c.args.disk.now) c.requires.empty (omega (arith, many, end)) c.tables.invariant.grown
+    all_pages (g.K.Disk.held c.args.disk.now) (g.K.Disk.held c.tables.disk) c.args.all.now c.tables.at (g.K.Disk.size c.args.disk.now)
+    (g.met.K.Disk.told_size c.args.disk.now) c.requires.empty (omega (arith, many, end)) c.tables.invariant.grown

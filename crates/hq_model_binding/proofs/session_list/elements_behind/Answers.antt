@@ -18,10 +18,12 @@ returns-in-Over c =
     elim c.if-at-bytes.branch [
       | then-at-bytes w ↦
           w.result-is
-          ∙ reads_last c.loop-at.reader c.args.bytes.now c.loop-at.at _ c.loop-at-test.true c.loop-at.invariant c.in_ok-next.field-0 c.in-Over.elements c.in_ok-next.ensures c.in-Over.is w.if-at-bytes.true
+          ∙ reads_last c.loop-at.reader c.args.bytes.now c.loop-at.at _ c.loop-at-test.true c.loop-at.invariant c.in_ok-next.field-0
+          c.in-Over.elements c.in_ok-next.ensures c.in-Over.is w.if-at-bytes.true
       | else-at-bytes w ↦
           w.result-is
-          ∙ reads_more c.loop-at.reader c.args.bytes.now c.loop-at.at _ c.loop-at-test.true c.loop-at.invariant c.in_ok-next.field-0 c.in-Over.elements c.in_ok-next.ensures c.in-Over.is w.if-at-bytes.false
+          ∙ reads_more c.loop-at.reader c.args.bytes.now c.loop-at.at _ c.loop-at-test.true c.loop-at.invariant c.in_ok-next.field-0
+          c.in-Over.elements c.in_ok-next.ensures c.in-Over.is w.if-at-bytes.false
     ]
 
 -- a byte that stands in no list

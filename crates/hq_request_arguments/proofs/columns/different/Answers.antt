@@ -6,7 +6,9 @@ use Rattle.hq_request_arguments.proofs.Different.{same, one_number}
 use Rattle.hq_request_arguments.proofs.columns.different.Goals as goal
 
 pub loop-column-init : goal.loop-column-init
-loop-column-init c = seen_none same one_number (firsts same c.args.columns.now) ∙ ap (λ seen. seen ++ filter (is_new same one_number seen) (firsts same c.args.columns.now)) (sym c.new-different.ensures)
+loop-column-init c =
+    seen_none same one_number (firsts same c.args.columns.now)
+    ∙ ap (λ seen. seen ++ filter (is_new same one_number seen) (firsts same c.args.columns.now)) (sym c.new-different.ensures)
 
 pub loop-column-preserved : goal.loop-column-preserved
 loop-column-preserved c =

@@ -26,4 +26,5 @@ returns-in_err-operand c =
 
 pub returns : goal.returns
 returns c =
-    read_all (λ (js : List Json). each (operand_due c.args.test c.args.ty) (map json_view js)) c.args.items.now c.loop-json.json-index c.loop-json.operands _ c.loop-json.invariant c.loop-json-test.false refl
+    read_all (λ (js : List Json). each (operand_due c.args.test c.args.ty) (map json_view js)) c.args.items.now c.loop-json.json-index
+    c.loop-json.operands _ c.loop-json.invariant c.loop-json-test.false refl

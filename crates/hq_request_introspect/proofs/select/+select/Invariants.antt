@@ -13,4 +13,9 @@ invariant-put_object-loop-at l = l.out ≡ l.initial.out ++ join_with_byte 44 (m
 
 -- the objects so far
 abbrev pub invariant-put_objects-loop-at : goal.invariant-put_objects-loop-at
-invariant-put_objects-loop-at l = l.out ≡ l.initial.out ++ join_with_byte 44 (element_texts (elements_of (map (object_of (fields_view l.fields.items) (schema_view l.schema)) (map node_view (take l.at l.nodes)))))
+invariant-put_objects-loop-at l =
+    l.out
+    ≡ l.initial.out
+    ++ join_with_byte 44
+    (element_texts
+    (elements_of (map (object_of (fields_view l.fields.items) (schema_view l.schema)) (map node_view (take l.at l.nodes)))))

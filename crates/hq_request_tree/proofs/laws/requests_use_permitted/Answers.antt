@@ -10,4 +10,5 @@ returns-clause-permitted c tables m a h = h.uses
 
 pub returns-clause-existing : goal.returns-clause-existing
 returns-clause-existing c tables m a fit h =
-    uses_weaken (schema_of tables m) (allowed_to a.role m (schema_of tables m)) (existing m (schema_of tables m)) (permitted_there tables m fit a.role (c.permissions_fit.ensures tables m a.role)) a.fields (length tables) h.uses
+    uses_weaken (schema_of tables m) (allowed_to a.role m (schema_of tables m)) (existing m (schema_of tables m))
+    (permitted_there tables m fit a.role (c.permissions_fit.ensures tables m a.role)) a.fields (length tables) h.uses

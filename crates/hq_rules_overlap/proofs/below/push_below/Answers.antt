@@ -9,7 +9,8 @@ pub returns-clause-below : goal.returns-clause-below
 returns-clause-below c =
     let f = field_in c.args.arena.now in
     on_ok_weaker c.push_row.result
-    (λ only. below_more (map f c.args.entries.now) c.args.rows.now.items c.push_row.new.rows.items c.args.at (f c.args.entry.now) c.args.entry.now.below c.requires.stands c.requires.key refl only c.requires.below)
+    (λ only. below_more (map f c.args.entries.now) c.args.rows.now.items c.push_row.new.rows.items c.args.at (f c.args.entry.now)
+    c.args.entry.now.below c.requires.stands c.requires.key refl only c.requires.below)
     c.push_row.ensures.only
 
 pub returns-clause-length : goal.returns-clause-length
@@ -18,4 +19,8 @@ returns-clause-length c = on_ok_weaker c.push_row.result (λ e. e ∙ c.requires
 pub returns-clause-added : goal.returns-clause-added
 returns-clause-added c =
     let f = field_in c.args.arena.now in
-    on_ok_weaker c.push_row.result (λ added. added (subst (λ (n : ℕ). c.args.at < n) (sym c.requires.length) (key_inside f c.args.entries.now c.args.at (f c.args.entry.now) c.requires.key))) c.push_row.ensures.added
+    on_ok_weaker c.push_row.result
+    (λ added. added
+    (subst (λ (n : ℕ). c.args.at < n) (sym c.requires.length)
+    (key_inside f c.args.entries.now c.args.at (f c.args.entry.now) c.requires.key)))
+    c.push_row.ensures.added

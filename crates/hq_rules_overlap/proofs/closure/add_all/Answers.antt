@@ -10,7 +10,8 @@ loop-number-init c = grows_nothing c.args.list.now.items
 
 pub loop-number-preserved : goal.loop-number-preserved
 loop-number-preserved c =
-    grows_more c.args.numbers.now c.loop-number.number-index _ 0 c.args.list.now.items c.loop-number.list.items c.add.new.list.items c.loop-number-test.true refl c.loop-number.invariant c.in_ok-add.ensures
+    grows_more c.args.numbers.now c.loop-number.number-index _ 0 c.args.list.now.items c.loop-number.list.items c.add.new.list.items
+    c.loop-number-test.true refl c.loop-number.invariant c.in_ok-add.ensures
 
 pub returns : goal.returns
 returns c =

@@ -15,8 +15,10 @@ loop-set-init c =
 pub loop-set-preserved : goal.loop-set-preserved
 loop-set-preserved c =
     let f = field_in c.args.arena.now in
-    of_more (arena_view c.args.arena.now) c.args.group.now c.loop-set.set-index _ 0 (map f c.loop-set.entries.items) (map f c.push_fields.new.entries.items) c.loop-set-test.true refl c.in_ok-push_fields.ensures c.loop-set.invariant
+    of_more (arena_view c.args.arena.now) c.args.group.now c.loop-set.set-index _ 0 (map f c.loop-set.entries.items)
+    (map f c.push_fields.new.entries.items) c.loop-set-test.true refl c.in_ok-push_fields.ensures c.loop-set.invariant
 
 pub returns : goal.returns
 returns c =
-    subst (λ (g : List ℕ). AreOf (arena_view c.args.arena.now) g (map (field_in c.args.arena.now) c.loop-set.entries.items)) (take_all c.loop-set.set-index c.args.group.now c.loop-set-test.false) c.loop-set.invariant
+    subst (λ (g : List ℕ). AreOf (arena_view c.args.arena.now) g (map (field_in c.args.arena.now) c.loop-set.entries.items))
+    (take_all c.loop-set.set-index c.args.group.now c.loop-set-test.false) c.loop-set.invariant

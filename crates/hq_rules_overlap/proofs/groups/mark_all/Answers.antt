@@ -11,7 +11,8 @@ loop-number-init c = λ s h. inl h
 
 pub loop-number-preserved : goal.loop-number-preserved
 loop-number-preserved c =
-    marks_more c.args.numbers.now c.loop-number.number-index _ 0 c.args.marks.now.items c.loop-number.marks.items c.mark.new.marks.items c.loop-number-test.true refl c.mark.ensures c.loop-number.invariant
+    marks_more c.args.numbers.now c.loop-number.number-index _ 0 c.args.marks.now.items c.loop-number.marks.items c.mark.new.marks.items
+    c.loop-number-test.true refl c.mark.ensures c.loop-number.invariant
 
 pub returns : goal.returns
 returns c = λ s h.

@@ -35,13 +35,16 @@ loop-found-preserved c =
           let told : c.has_like.result ≡ true = search rules in
           record {
             summary = subst (λ (xs : List Use). IsSummary (map use_view xs) (map use_view (take (i + 1) us))) (sym items)
-                (summary_more us i u c.loop-found.kept.items c.loop-found-test.true c.found-item.is (subst (λ (xs : List Use). HasLike xs u) same (c.has_like.ensures told)) c.loop-found.invariant.summary);
+                (summary_more us i u c.loop-found.kept.items c.loop-found-test.true c.found-item.is
+                (subst (λ (xs : List Use). HasLike xs u) same (c.has_like.ensures told)) c.loop-found.invariant.summary);
             numbered = λ f h. subst (λ (xs : List Use). All (IsNumbered f) xs) (sym items) (c.loop-found.invariant.numbered f h);
           }
     ]
 
 pub returns : goal.returns
 returns c = record {
-  summary = subst (λ (xs : List Use). IsSummary (map use_view c.loop-found.kept.items) (map use_view xs)) (take_all c.loop-found.found-index c.args.uses.now (omega arith)) c.loop-found.invariant.summary;
+  summary =
+      subst (λ (xs : List Use). IsSummary (map use_view c.loop-found.kept.items) (map use_view xs))
+      (take_all c.loop-found.found-index c.args.uses.now (omega arith)) c.loop-found.invariant.summary;
   numbered = c.loop-found.invariant.numbered;
 }

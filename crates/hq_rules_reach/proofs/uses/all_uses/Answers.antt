@@ -29,5 +29,6 @@ loop-part-preserved c =
       long = first_of (search rules, grind (arith, common_steps, c.in_ok-push.ensures.items, c.loop-part.invariant.long));
       summaries =
           subst (λ (xs : List (Vec Use Global)). AreSummaries (uses_view xs) (all_uses (map part_view (take (c.loop-part.part-index + 1) c.args.parts.now)))) (sym c.in_ok-push.ensures.items)
-          (summaries_more c.loop-part.all.items c.in_ok-summary_of.field-0 c.args.parts.now c.loop-part.part-index c.part-item.result c.loop-part-test.true c.part-item.is c.loop-part.invariant.long c.loop-part.invariant.summaries one);
+          (summaries_more c.loop-part.all.items c.in_ok-summary_of.field-0 c.args.parts.now c.loop-part.part-index c.part-item.result
+          c.loop-part-test.true c.part-item.is c.loop-part.invariant.long c.loop-part.invariant.summaries one);
     }

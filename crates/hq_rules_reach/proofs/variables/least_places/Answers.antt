@@ -36,5 +36,7 @@ loop-at-preserved c =
       clear = found.clear;
       undefined = least_with (in_operation (undefined_in all) g) defs at x _ _ (omega arith) (search rules) c.loop-at.invariant.undefined found.undefined;
       unused = λ h. least_with (in_operation (unused_in all) g) defs at x _ _ (omega arith) (search rules) (c.loop-at.invariant.unused (none_before _ _ (sym found.undefined ∙ h))) (found.unused h);
-      wrong = λ h. least_with (in_operation (wrong_in (schema_view c.args.schema.now) all) g) defs at x _ _ (omega arith) (search rules) (c.loop-at.invariant.wrong (none_before _ _ (sym found.undefined ∙ h))) (found.wrong h);
+      wrong =
+          λ h. least_with (in_operation (wrong_in (schema_view c.args.schema.now) all) g) defs at x _ _ (omega arith) (search rules)
+          (c.loop-at.invariant.wrong (none_before _ _ (sym found.undefined ∙ h))) (found.wrong h);
     }

@@ -15,5 +15,10 @@ invariant-loop-at l = record {
   clear : IsClear l.places.items;
   undefined : l.least.undefined ≡ least_below (place_at (in_operation (undefined_in (uses_view l.uses.all.items)) (graph_view l.graph)) (document_view l.document)) l.at;
   unused : l.least.undefined ≡ None → l.least.unused ≡ least_below (place_at (in_operation (unused_in (uses_view l.uses.all.items)) (graph_view l.graph)) (document_view l.document)) l.at;
-  wrong : l.least.undefined ≡ None → l.least.wrong ≡ least_below (place_at (in_operation (wrong_in (schema_view l.schema) (uses_view l.uses.all.items)) (graph_view l.graph)) (document_view l.document)) l.at;
+  wrong : l.least.undefined ≡ None
+      → l.least.wrong
+      ≡ least_below
+      (place_at (in_operation (wrong_in (schema_view l.schema) (uses_view l.uses.all.items)) (graph_view l.graph))
+      (document_view l.document))
+      l.at;
 }

@@ -15,7 +15,10 @@ returns-then-is_some-clause-undefined c =
     let vars = map var_def_view c.args.vars.now in
     let definitions = c.args.definitions.now in
     c.undefined_in-undefined.ensures
-    ∙ ap (λ (us : List (Vec Use Global)). earlier c.args.least.undefined (least_of (λ j. least_of (undefined_use (numbered_place places)) (uses_at (numbers_view us) j)) definitions)) c.deref.ensures.value
+    ∙ ap
+    (λ (us : List (Vec Use Global)). earlier c.args.least.undefined
+    (least_of (λ j. least_of (undefined_use (numbered_place places)) (uses_at (numbers_view us) j)) definitions))
+    c.deref.ensures.value
     ∙ ap (earlier c.args.least.undefined) (undefined_numbered (get_name c.args.uses.now.numbers.names) c.args.uses.now.all.items vars places definitions c.requires.fit.numbered c.requires.places)
 
 pub returns-clause-undefined : goal.returns-clause-undefined
@@ -24,7 +27,10 @@ returns-clause-undefined c =
     let vars = map var_def_view c.args.vars.now in
     let definitions = c.args.definitions.now in
     c.undefined_in-undefined.ensures
-    ∙ ap (λ (us : List (Vec Use Global)). earlier c.args.least.undefined (least_of (λ j. least_of (undefined_use (numbered_place places)) (uses_at (numbers_view us) j)) definitions)) c.deref.ensures.value
+    ∙ ap
+    (λ (us : List (Vec Use Global)). earlier c.args.least.undefined
+    (least_of (λ j. least_of (undefined_use (numbered_place places)) (uses_at (numbers_view us) j)) definitions))
+    c.deref.ensures.value
     ∙ ap (earlier c.args.least.undefined) (undefined_numbered (get_name c.args.uses.now.numbers.names) c.args.uses.now.all.items vars places definitions c.requires.fit.numbered c.requires.places)
 
 pub returns-clause-unused : goal.returns-clause-unused

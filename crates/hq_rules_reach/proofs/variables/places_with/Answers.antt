@@ -16,4 +16,7 @@ places_among-found-requires-clause-places c =
     subst (λ (ps : List (Option ℕ)). ArePlaces f ps vars) (sym c.deref.ensures.value) (are_places f c.args.uses.now.numbers.count _ vars c.requires.fit.numbers c.note_variables.ensures.noted)
 
 pub clear_variables-requires : goal.clear_variables-requires
-clear_variables-requires c = λ n none. c.note_variables.ensures.noted n ∙ none_noted (λ (v : VarDefTree). is_number (get_name c.args.uses.now.numbers.names v.name) n) 0 (map var_def_view c.args.vars.now) none
+clear_variables-requires c =
+    λ n none. c.note_variables.ensures.noted n
+    ∙ none_noted (λ (v : VarDefTree). is_number (get_name c.args.uses.now.numbers.names v.name) n) 0 (map var_def_view c.args.vars.now)
+    none

@@ -19,7 +19,9 @@ resolve_joined-returns-then-ne-clause-row t c =
     let join = c.in-Some.join.now in
     let alias = c.args.alias.now in
     let other : bytes_eq (join_view join).alias alias ≡ false = ap (λ a. bytes_eq a alias) (join_alias join) ∙ not-true (bytes_eq join.alias alias) (sym c.ne.ensures ∙ c.if-ne.true) in
-    λ w. beside_other c.args.joins.now c.in-Some.before.now join w (scope_of c.args.outer.now w) (map (option_map made_view) c.args.rows.now) c.in-Some.ensures.cases.0 alias other ∙ c.resolve_joined.ensures.row w
+    λ w. beside_other c.args.joins.now c.in-Some.before.now join w (scope_of c.args.outer.now w)
+    (map (option_map made_view) c.args.rows.now) c.in-Some.ensures.cases.0 alias other
+    ∙ c.resolve_joined.ensures.row w
 
 pub resolve_joined-returns-then-ne-clause-weight : goal.resolve_joined-returns-then-ne-clause-weight
 resolve_joined-returns-then-ne-clause-weight t c =
@@ -35,7 +37,11 @@ resolve_joined-returns-in-Some-joined_at-clause-row t c =
     let rows = map (option_map made_view) c.args.rows.now in
     let own : bytes_eq (join_view join).alias alias ≡ true = ap (λ a. bytes_eq a alias) (join_alias join) ∙ not-false (bytes_eq join.alias alias) (sym c.ne.ensures ∙ c.if-ne.false) in
     λ w. beside_own c.args.joins.now c.in-Some.before.now join w (scope_of c.args.outer.now w) rows c.in-Some.ensures.cases.0 alias own
-    ∙ ap (λ (o : Option NamedRow). unwrap_or o (first_row (rows_of (join_view join).select w (beside before w (scope_of c.args.outer.now w) rows)))) (sym c.in-Some-joined_at.ensures) ∙ ap (map named_view) (sym c.deref.ensures.value)
+    ∙ ap
+    (λ (o : Option NamedRow). unwrap_or o
+    (first_row (rows_of (join_view join).select w (beside before w (scope_of c.args.outer.now w) rows))))
+    (sym c.in-Some-joined_at.ensures)
+    ∙ ap (map named_view) (sym c.deref.ensures.value)
 
 pub resolve_joined-returns-in-None-joined_at-clause-row : goal.resolve_joined-returns-in-None-joined_at-clause-row
 resolve_joined-returns-in-None-joined_at-clause-row t c =

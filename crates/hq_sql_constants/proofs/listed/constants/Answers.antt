@@ -11,4 +11,6 @@ loop-expr-preserved c m =
     let i = c.loop-expr.expr-index in
     let lt : i < length exprs = omega (arith, c.loop-expr-test.true) in
     let known : (n : Names) → value (expr_view c.expr-item.result) [] n ≡ cell_of c.in-Some.value = rw c.in-Some.is at c.in_ok-value.ensures in
-    constants_more exprs i c.expr-item.result c.loop-expr.values.items c.in-Some.value m lt c.expr-item.is (c.loop-expr.invariant m) (known m) ∙ ap (map cell_of) (sym c.in_ok-push-in-Some.ensures.items)
+    constants_more exprs i c.expr-item.result c.loop-expr.values.items c.in-Some.value m lt c.expr-item.is (c.loop-expr.invariant m)
+    (known m)
+    ∙ ap (map cell_of) (sym c.in_ok-push-in-Some.ensures.items)

@@ -18,8 +18,10 @@ returns c =
     let name = c.args.asked.name.now in
     let s = c.in_ok-constants.constants in
     let ps = positions_of c.args.positions in
-    let first : position (λ (k : Column). bytes_eq k.name name) columns ≡ Some c.in-Some.at = ap (position (λ (k : Column). bytes_eq k.name name)) (sym c.as_slice.ensures) ∙ sym c.first_named.ensures ∙ c.in-Some.is in
+    let first : position (λ (k : Column). bytes_eq k.name name) columns ≡ Some c.in-Some.at =
+    ap (position (λ (k : Column). bytes_eq k.name name)) (sym c.as_slice.ensures) ∙ sym c.first_named.ensures ∙ c.in-Some.is in
     let chosen : c.in_ok-places.places.items ≡ filter (λ k. has_constant s (cell_in (get_or rows k []) c.in-Some.at)) ps =
     c.in_ok-places.ensures ∙ ap (λ at. filter (λ k. has_constant s (cell_in (get_or rows k []) at)) ps) c.new.ensures in
-    sifted_at columns rows (rows_lent stored.rows) (joins_of (map join_view c.args.joins.now)) c.args.alias.now name (pred_view c.args.pred.now) c.args.asked.values.items c.in-Some.at s ps c.in_ok-places.places.items
+    sifted_at columns rows (rows_lent stored.rows) (joins_of (map join_view c.args.joins.now)) c.args.alias.now name
+    (pred_view c.args.pred.now) c.args.asked.values.items c.in-Some.at s ps c.in_ok-places.places.items
     c.requires.rows c.requires.asks first c.in_ok-constants.ensures c.requires.joined chosen

@@ -33,6 +33,10 @@ key_set-requires-clause-keeps c =
     subst (λ cs. AreLinks cs a (lent_views rest) own exprs) c.as_slice.ensures.value (subst (λ ps. AreLinks c.as_slice.result.now a (lent_views ps) own exprs) c.deref.ensures.value found) in
     let told : truths ≡ map (λ row. all_kept (lent_views closed) w (with_alias nothing a row)) (map (named_row columns) rows) =
     subst (λ rs. truths ≡ map (λ row. all_kept (lent_views closed) w (with_alias nothing a row)) (map (named_row columns) rs)) c.requires.lent
-    (subst (λ ps. truths ≡ map (λ row. all_kept (lent_views ps) w (with_alias nothing a row)) (map (named_row columns) (rows_lent c.args.stored.now.rows))) c.deref-2.ensures.value c.in_ok-truths.ensures) in
+    (subst
+    (λ ps. truths
+    ≡ map (λ row. all_kept (lent_views ps) w (with_alias nothing a row)) (map (named_row columns) (rows_lent c.args.stored.now.rows)))
+    c.deref-2.ensures.value c.in_ok-truths.ensures)
+    in
     subst (λ ts. KeepsKeys w has rows ts c.deref-4.result.now exprs) (sym c.deref-3.ensures.value)
     (subst (λ cs. KeepsKeys w has rows truths cs exprs) (sym c.deref-4.ensures.value) (keeps_keys w has columns rows a p m closed rest truths own exprs c.requires.filters begun links told))

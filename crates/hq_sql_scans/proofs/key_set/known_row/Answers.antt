@@ -12,6 +12,7 @@ pub returns-in-Some : goal.returns-in-Some
 returns-in-Some c =
     let w = world_of c.args.world.now in
     let n = names_of c.args.scope.now c.args.world.now in
-    let weaker : (o : Option Bool) → IfSome o (λ b. (v : World) → b ≡ keeps_key c.in-Some.set.now (scope_of c.args.scope.now v)) → IfSome o (λ b. truth_of b ≡ truth_at (pred_view c.args.pred.now) w n) =
+    let weaker : (o : Option Bool) → IfSome o (λ b. (v : World) → b ≡ keeps_key c.in-Some.set.now (scope_of c.args.scope.now v))
+    → IfSome o (λ b. truth_of b ≡ truth_at (pred_view c.args.pred.now) w n) =
     elim [ None ↦ λ h. h | Some b ↦ λ h. ap truth_of (h w) ∙ sym (c.in-Some.ensures.has n) ] in
     IfOk-weaker c.has_row.result _ _ weaker c.has_row.ensures

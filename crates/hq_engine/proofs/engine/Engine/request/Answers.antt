@@ -16,6 +16,7 @@ returns-clause-session c =
     let meta = meta_view c.args.self.now.meta in
     let session = c.args.session.now in
     let body = c.args.body.now in
-    let found : schema_view c.get.result.now ≡ role_schema tables meta (role_of session.role) = ap schema_view c.get.ensures ∙ c.in_ok-found.ensures ∙ ap (λ r. role_schema tables meta r) c.in_ok-role.ensures in
+    let found : schema_view c.get.result.now ≡ role_schema tables meta (role_of session.role) =
+    ap schema_view c.get.ensures ∙ c.in_ok-found.ensures ∙ ap (λ r. role_schema tables meta r) c.in_ok-role.ensures in
     formed tables meta session body (λ ask. c.requests_are_formed.ensures tables meta session body ask) c.args.self.now.catalog.valid c.args.self.now.meta_fits c.request.result
     (subst (λ (s : SchemaTree). Gives ask_view Memory (request_by s tables meta session body) c.request.result) found c.request.ensures)

@@ -32,7 +32,8 @@ pub invariant_of-self-in-Ok-clause-told : goal.invariant_of-self-in-Ok-clause-to
 invariant_of-self-in-Ok-clause-told g c =
     let s = c.args.self.now in
     moved (g.K.Disk.held s.disk) (g.K.Disk.held c.read_table.new.disk) c.in-Ok.ensures.held
-    (pins_of (g.K.Disk.held s.disk) s.dues.items s.catalog.tables s.runs.items s.pins.items c.at-at.result c.table_at-table.result.now c.run_at-run.result c.in-Ok.rows s.told (search rules) (search rules) (search rules) (search rules) (search rules))
+    (pins_of (g.K.Disk.held s.disk) s.dues.items s.catalog.tables s.runs.items s.pins.items c.at-at.result c.table_at-table.result.now
+    c.run_at-run.result c.in-Ok.rows s.told (search rules) (search rules) (search rules) (search rules) (search rules))
 
 -- the pages are the due ones
 
@@ -40,7 +41,8 @@ pub invariant_of-self-in-Err-Broken-clause-sound : goal.invariant_of-self-in-Err
 invariant_of-self-in-Err-Broken-clause-sound g c =
     let s = c.args.self.now in
     moved (g.K.Disk.held s.disk) (g.K.Disk.held c.read_table.new.disk) c.in-Err-Broken.ensures.held
-    (never_broken (g.K.Disk.held s.disk) s.dues.items s.catalog.tables s.runs.items c.args.t c.table_at-table.result.now c.run_at-run.result c.count_fault.new.faults s.readable (search rules) (search rules) (search rules) (search rules))
+    (never_broken (g.K.Disk.held s.disk) s.dues.items s.catalog.tables s.runs.items c.args.t c.table_at-table.result.now c.run_at-run.result
+    c.count_fault.new.faults s.readable (search rules) (search rules) (search rules) (search rules))
 
 pub invariant_of-self-in-Ok-clause-places : goal.invariant_of-self-in-Ok-clause-places
 invariant_of-self-in-Ok-clause-places g c =

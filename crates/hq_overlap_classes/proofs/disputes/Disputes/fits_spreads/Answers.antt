@@ -12,4 +12,5 @@ loop-spread-preserved c =
 
 pub returns : goal.returns
 returns c =
-    λ _. all_at_end_itself (λ (u : ℕ). class_of c.args.self.now.classes.sets u ≡ c.args.class) c.args.spreads.now c.args.spreads.now c.loop-spread.spread-index refl c.loop-spread-test.false c.loop-spread.invariant
+    λ _. all_at_end_itself (λ (u : ℕ). class_of c.args.self.now.classes.sets u ≡ c.args.class) c.args.spreads.now c.args.spreads.now
+    c.loop-spread.spread-index refl c.loop-spread-test.false c.loop-spread.invariant

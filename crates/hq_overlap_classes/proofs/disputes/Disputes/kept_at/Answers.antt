@@ -15,5 +15,6 @@ returns-in-Some c =
     let s = schema_view a.schema.now in
     let n = noted_in s c.args.self.now in
     if_ok_weaker2 c.kept_set.result
-    (λ y f g. ap (option_map (kept_set n c.args.number)) (set_here a c.args.number c.in-Some.set.now (sym c.in-Some.ensures)) ∙ ap (λ (x : SetTree). Some x) (sym (kept_view s c.args.self.now c.args.number c.in-Some.set.now y f g)))
+    (λ y f g. ap (option_map (kept_set n c.args.number)) (set_here a c.args.number c.in-Some.set.now (sym c.in-Some.ensures))
+    ∙ ap (λ (x : SetTree). Some x) (sym (kept_view s c.args.self.now c.args.number c.in-Some.set.now y f g)))
     c.kept_set.ensures.entries c.kept_set.ensures.spreads

@@ -16,10 +16,14 @@ loop-number-preserved c =
     }
 
 pub returns-clause-kept : goal.returns-clause-kept
-returns-clause-kept c = all_kept (noted_in (schema_view c.args.arena.now.schema.now) c.args.self.now) c.args.arena.now c.loop-number.sets.items c.loop-number.number (omega arith) c.loop-number.invariant.as_long c.loop-number.invariant.each (omega arith)
+returns-clause-kept c =
+    all_kept (noted_in (schema_view c.args.arena.now.schema.now) c.args.self.now) c.args.arena.now c.loop-number.sets.items
+    c.loop-number.number (omega arith) c.loop-number.invariant.as_long c.loop-number.invariant.each (omega arith)
 
 pub returns-clause-smaller : goal.returns-clause-smaller
 returns-clause-smaller c =
     let a = c.args.arena.now in
     let n = noted_in (schema_view a.schema.now) c.args.self.now in
-    kept_smaller n (arena_view a) (map (set_in a) c.loop-number.sets.items) (all_kept n a c.loop-number.sets.items c.loop-number.number (omega arith) c.loop-number.invariant.as_long c.loop-number.invariant.each (omega arith))
+    kept_smaller n (arena_view a) (map (set_in a) c.loop-number.sets.items)
+    (all_kept n a c.loop-number.sets.items c.loop-number.number (omega arith) c.loop-number.invariant.as_long c.loop-number.invariant.each
+    (omega arith))

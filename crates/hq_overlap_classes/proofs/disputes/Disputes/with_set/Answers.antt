@@ -19,7 +19,9 @@ pub returns-then-is_at_fault : goal.returns-then-is_at_fault
 returns-then-is_at_fault c =
     let low = c.requires.smaller c.args.number in
     let size = c.size_of.ensures in
-    one_found (arena_view c.args.arena.now) c.args.number c.args.sum (size_at (arena_view c.args.kept.now) c.args.number) c.saturating_add.result (c.is_at_fault.ensures c.if-is_at_fault.true) low (omega (arith, c.saturating_add.ensures, size)) c.requires.found
+    one_found (arena_view c.args.arena.now) c.args.number c.args.sum (size_at (arena_view c.args.kept.now) c.args.number)
+    c.saturating_add.result (c.is_at_fault.ensures c.if-is_at_fault.true) low (omega (arith, c.saturating_add.ensures, size))
+    c.requires.found
 
 pub returns : goal.returns
 returns c = none_more (arena_view c.args.arena.now) c.args.number c.args.sum c.requires.found

@@ -44,7 +44,10 @@ pub returns-clause-noted : goal.returns-clause-noted
 returns-clause-noted c =
     let f = field_in c.args.arena.now in
     let fields = map f c.args.entries.now in
-    all_at_end f (λ (g : FieldTree). IsSettled (first_in c.args.heads.now fields) (label_in c.args.heads.now fields) g ⊎ AtMost c.loop-entry.self.least g.at) c.args.entries.now fields c.loop-entry.entry-index
+    all_at_end f
+    (λ (g : FieldTree). IsSettled (first_in c.args.heads.now fields) (label_in c.args.heads.now fields) g
+    ⊎ AtMost c.loop-entry.self.least g.at)
+    c.args.entries.now fields c.loop-entry.entry-index
     refl c.loop-entry-test.false c.loop-entry.invariant.noted
 
 pub returns-clause-best : goal.returns-clause-best

@@ -22,7 +22,9 @@ pub loop-set-preserved : goal.loop-set-preserved
 loop-set-preserved c =
     record {
       end = c.in_ok-going.ensures.end (search rules);
-      covered = covered_more (arena_view c.args.arena.now) c.loop-set.self c.cover.new.self c.args.passed.now c.loop-set.set (c.in_ok-going.ensures.goes (search rules)) c.loop-set.invariant.covered (c.in_ok-going.ensures.covered (search rules));
+      covered =
+          covered_more (arena_view c.args.arena.now) c.loop-set.self c.cover.new.self c.args.passed.now c.loop-set.set
+          (c.in_ok-going.ensures.goes (search rules)) c.loop-set.invariant.covered (c.in_ok-going.ensures.covered (search rules));
     }
 
 pub returns-then-not-going-clause-best : goal.returns-then-not-going-clause-best

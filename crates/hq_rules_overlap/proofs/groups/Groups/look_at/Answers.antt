@@ -10,9 +10,12 @@ pub look_at_fields-requires-clause-sound : goal.look_at_fields-requires-clause-s
 look_at_fields-requires-clause-sound c = sound_same (arena_view c.args.arena.now) c.args.self.now c.spend.new.self c.spend.ensures.lists c.spend.ensures.covered c.spend.ensures.found c.requires.sound
 
 pub returns-then-not-spend-clause-best : goal.returns-then-not-spend-clause-best
-returns-then-not-spend-clause-best c = (sound_same (arena_view c.args.arena.now) c.args.self.now c.spend.new.self c.spend.ensures.lists c.spend.ensures.covered c.spend.ensures.found c.requires.sound).best
+returns-then-not-spend-clause-best c =
+    (sound_same (arena_view c.args.arena.now) c.args.self.now c.spend.new.self c.spend.ensures.lists c.spend.ensures.covered c.spend.ensures.found c.requires.sound).best
 
 pub returns-clause-looked : goal.returns-clause-looked
 returns-clause-looked c =
     IfOk-weaker c.look_at_fields.result _ _
-    (λ going looked held. looked_same (arena_view c.args.arena.now) c.args.self.now c.spend.new.self c.look_at_fields.new.self c.args.group.now c.spend.ensures.lists c.spend.ensures.found (looked held)) c.look_at_fields.ensures.looked
+    (λ going looked held. looked_same (arena_view c.args.arena.now) c.args.self.now c.spend.new.self c.look_at_fields.new.self
+    c.args.group.now c.spend.ensures.lists c.spend.ensures.found (looked held))
+    c.look_at_fields.ensures.looked

@@ -43,7 +43,8 @@ returns-in_default-clause-goes c = λ _. record { lists = c.loop-at.invariant.go
 
 pub returns-in_default-clause-end : goal.returns-in_default-clause-end
 returns-in_default-clause-end c = λ _.
-    at_end (arena_view c.args.arena.now) c.loop-at.self c.loop-at.at c.loop-at.invariant.sound c.loop-at.invariant.explored c.loop-at.invariant.inside (sym c.in_ok-found.ensures ∙ ap (option_map (λ (v : Vec ℕ Global). v.items)) c.in_default.is)
+    at_end (arena_view c.args.arena.now) c.loop-at.self c.loop-at.at c.loop-at.invariant.sound c.loop-at.invariant.explored
+    c.loop-at.invariant.inside (sym c.in_ok-found.ensures ∙ ap (option_map (λ (v : Vec ℕ Global). v.items)) c.in_default.is)
 
 pub returns-then-not-going-clause-best : goal.returns-then-not-going-clause-best
 returns-then-not-going-clause-best c = c.in_ok-going.ensures.best

@@ -9,7 +9,8 @@ use Rattle.hq_rules_overlap.proofs.groups.Groups.told.Goals as goal
 pub returns-then-is_same : goal.returns-then-is_same
 returns-then-is_same c =
     let q = c.args.self.now in
-    groups_are_enough (arena_view c.args.arena.now) (lists_of q) q.found.least (all_explored (arena_view c.args.arena.now) q c.requires.end) c.requires.covered q.found.best (c.is_same.ensures c.if-is_same.true) c.requires.end.sound.best
+    groups_are_enough (arena_view c.args.arena.now) (lists_of q) q.found.least (all_explored (arena_view c.args.arena.now) q c.requires.end)
+    c.requires.covered q.found.best (c.is_same.ensures c.if-is_same.true) c.requires.end.sound.best
 
 pub returns-else-is_same : goal.returns-else-is_same
 returns-else-is_same c = c.requires.end.sound.best

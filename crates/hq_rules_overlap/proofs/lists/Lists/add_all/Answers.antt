@@ -20,7 +20,9 @@ add_some-requires-clause-list c =
     let rows = c.args.rows.now in
     let row = c.row-item.result in
     subst (AreTogether sets) (sym c.deref.ensures.value)
-    (All-contains (AreTogether sets) (graph_view rows) row.items c.requires.rows (contained_item (λ (v : Vec ℕ Global). v.items) rows (graph_view rows) c.loop-row.row-index row refl c.loop-row-test.true c.row-item.is))
+    (All-contains (AreTogether sets) (graph_view rows) row.items c.requires.rows
+    (contained_item (λ (v : Vec ℕ Global). v.items) rows (graph_view rows) c.loop-row.row-index row refl c.loop-row-test.true
+    c.row-item.is))
 
 pub loop-row-init : goal.loop-row-init
 loop-row-init c = record { lists = c.requires.lists; grown = goes_nowhere (graph_view c.args.self.now.rows.items); kept = search rules }
@@ -47,4 +49,5 @@ returns-clause-grown c = c.loop-row.invariant.grown
 
 pub returns-clause-kept : goal.returns-clause-kept
 returns-clause-kept c =
-    all_at_end (λ (row : Vec ℕ Global). row.items) (IsKept (graph_view c.loop-row.self.rows.items)) c.args.rows.now (graph_view c.args.rows.now) c.loop-row.row-index refl c.loop-row-test.false c.loop-row.invariant.kept
+    all_at_end (λ (row : Vec ℕ Global). row.items) (IsKept (graph_view c.loop-row.self.rows.items)) c.args.rows.now
+    (graph_view c.args.rows.now) c.loop-row.row-index refl c.loop-row-test.false c.loop-row.invariant.kept

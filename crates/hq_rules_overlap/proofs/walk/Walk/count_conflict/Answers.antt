@@ -12,7 +12,9 @@ pub returns-then-is_at_most-clause-step : goal.returns-then-is_at_most-clause-st
 returns-then-is_at_most-clause-step c = step_refl (arena_view c.args.arena.now) c.args.self.now
 
 pub returns-then-is_at_most-clause-counted : goal.returns-then-is_at_most-clause-counted
-returns-then-is_at_most-clause-counted c = λ _. subst (AtMost c.args.self.now.best) c.later-at.ensures (known_low c.args.self.now.best c.later-at.result (sym c.is_at_most.ensures ∙ c.if-is_at_most.true))
+returns-then-is_at_most-clause-counted c =
+    λ _. subst (AtMost c.args.self.now.best) c.later-at.ensures
+    (known_low c.args.self.now.best c.later-at.result (sym c.is_at_most.ensures ∙ c.if-is_at_most.true))
 
 pub returns-clause-step : goal.returns-clause-step
 returns-clause-step c =
