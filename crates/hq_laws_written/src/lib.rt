@@ -2,11 +2,11 @@
 #![tactic(auto)]
 
 mod catalog;
-mod json;
+mod compact;
 mod metadata;
 mod tables;
 
 pub use catalog::written_catalog_is_read_back;
-pub use json::compact_text_is_read_back;
+pub use compact::compact_text_is_read_back;
 pub use metadata::written_metadata_is_read_back;
 pub use tables::written_table_is_read_back;

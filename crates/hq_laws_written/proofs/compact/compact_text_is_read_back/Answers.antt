@@ -7,7 +7,7 @@ use Rattle.hq_laws_written.proofs.Json.Printed.{read_printed, utf8}
 use Rattle.hq_laws_written.proofs.Json.Ordered.{held_in_order}
 use Rattle.hq_laws_written.proofs.Json.Valued.{valued}
 use Rattle.serde_json.specs.Written.{compact_text}
-use Rattle.hq_laws_written.proofs.json.compact_text_is_read_back.Goals as goal
+use Rattle.hq_laws_written.proofs.compact.compact_text_is_read_back.Goals as goal
 
 pub returns : goal.returns
 returns c = λ j h. ap body_of (same_text j)
