@@ -1,7 +1,7 @@
 //! The law, the contract of a function that does nothing.
 ghost use Rattle.std.specs.Prelude.{ℕ, List as Items};
 ghost use Rattle.hq_copy_definition.specs.Copied.{Copied};
-ghost use Rattle.hq_laws_copy_replies.specs.Replies.Requests.Laws.{RequestsRenumbered};
+ghost use Rattle.hq_laws_copy_replies.specs.Requests.Laws.{RequestsRenumbered};
 ghost use Rattle.hq_model.specs.Database.{Row};
 ghost use Rattle.hq_model.specs.Meta.{MetaTree};
 ghost use Rattle.hq_model.specs.declared.session.Session.{Session as Caller};

@@ -35,7 +35,7 @@ use Rattle.hq_model.specs.declared.role.Role.{Role}
 use Rattle.hq_model.specs.declared.role.Role.TheVariants.{Named}
 use Rattle.hq_model.specs.declared.session.Session.{Session}
 use Rattle.hq_model.specs.declared.table.Table.{Table}
-use Rattle.hq_laws_copy_replies.specs.Replies.Requests.Laws.{session_view, RequestsRenumbered}
+use Rattle.hq_laws_copy_replies.specs.Requests.Laws.{session_view, RequestsRenumbered}
 use Rattle.hq_laws_copy_replies.specs.Replies.Laws.{RepliesAlike}
 
 -- ---- the object of root fields

@@ -34,7 +34,7 @@ use Rattle.hq_laws_copy.proofs.Fits.Entries.{rels_are}
 use Rattle.hq_laws_copy.proofs.Fits.Held.{Held, all_held}
 use Rattle.hq_laws_renumbered.specs.Resolving.Renumbering.{Renumbering}
 use Rattle.hq_laws_renumbered.specs.Requests.Alike.{TablesAlike}
-use Rattle.hq_laws_copy_replies.specs.Replies.Requests.Laws.{session_view}
+use Rattle.hq_laws_copy_replies.specs.Requests.Laws.{session_view}
 
 module _ (tables : List Table) (m : MetaTree) (session : Session) (d : List (List Row)) (fit : fits tables m ≡ true)
     (none : NotRefused (role_of session.role) m (schema_of tables m) session.vars (seen_in (session_view tables m session d))) where

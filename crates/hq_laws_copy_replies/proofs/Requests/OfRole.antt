@@ -32,7 +32,7 @@ use Rattle.hq_model.specs.declared.role.Role.{Role}
 use Rattle.hq_model.specs.declared.table.Table.{Table}
 use Rattle.hq_copy_definition.proofs.Lists.{each_append, each_map, each_made, each_both}
 use Rattle.hq_laws_renumbered.specs.Requests.OfRole.{IsOfSeen, LooksUp, LeadsToPlain, Introspects, IsOfRole}
-use Rattle.hq_laws_copy_replies.proofs.Replies.Requests.Shown.{KeyIs, IsShown, all_shown}
+use Rattle.hq_laws_copy_replies.proofs.Requests.Shown.{KeyIs, IsShown, all_shown}
 
 each_all : {A : Type 0} (P : A → Type 0) → ((x : A) → P x) → (xs : List A) → Each P xs
 each_all P h [] = tt

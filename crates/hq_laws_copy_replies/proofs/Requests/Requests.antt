@@ -47,10 +47,10 @@ use Rattle.hq_laws_copy.proofs.Views.Refused.{given, causes_absent}
 use Rattle.hq_laws_renumbered.specs.Resolving.Renumbering.{Renumbering, fields_over}
 use Rattle.hq_laws_renumbered.specs.Requests.Alike.{TablesAlike}
 use Rattle.hq_laws_renumbered.specs.Requests.Laws.{FieldsRenumbered}
-use Rattle.hq_laws_copy_replies.specs.Replies.Requests.Laws.{session_view, RequestsRenumbered}
-use Rattle.hq_laws_copy_replies.proofs.Replies.Requests.Alike.{alike}
-use Rattle.hq_laws_copy_replies.proofs.Replies.Requests.Bound.{all_bind, session_binds, reader_binds}
-use Rattle.hq_laws_copy_replies.proofs.Replies.Requests.OfRole.{of_role}
+use Rattle.hq_laws_copy_replies.specs.Requests.Laws.{session_view, RequestsRenumbered}
+use Rattle.hq_laws_copy_replies.proofs.Requests.Alike.{alike}
+use Rattle.hq_laws_copy_replies.proofs.Requests.Bound.{all_bind, session_binds, reader_binds}
+use Rattle.hq_laws_copy_replies.proofs.Requests.OfRole.{of_role}
 
 -- a step that gives the same on both sides
 same_step : {X Y V W E : Type 0} (F : Y → W) (G : V → W) (f : X → Result Y E) (k : X → Result V E) (x y : Result X E) → y ≡ x → ((v : X) → mapped G (k v) ≡ mapped F (f v))

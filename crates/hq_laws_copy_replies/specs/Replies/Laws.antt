@@ -8,7 +8,7 @@ use Rattle.hq_model.specs.Meta.{MetaTree}
 use Rattle.hq_model.specs.declared.session.Session.{Session}
 use Rattle.hq_model.specs.declared.table.Table.{Table}
 use Rattle.hq_copy_definition.specs.Copied.{Copied, copied}
-use Rattle.hq_laws_copy_replies.specs.Replies.Requests.Laws.{session_view}
+use Rattle.hq_laws_copy_replies.specs.Requests.Laws.{session_view}
 use Rattle.hq_laws_copy.specs.Views.Laws.{reader_session}
 
 -- the reply that is due to a copy's reader is the one that is due to the session over the database

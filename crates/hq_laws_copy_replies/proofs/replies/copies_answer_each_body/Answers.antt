@@ -1,4 +1,4 @@
-use Rattle.hq_laws_copy_replies.specs.Replies.Requests.Laws.{session_view}
+use Rattle.hq_laws_copy_replies.specs.Requests.Laws.{session_view}
 use Rattle.hq_laws_copy_replies.proofs.Replies.Replies.{replies_alike}
 use Rattle.hq_laws_copy.specs.Views.Laws.{numbers}
 use Rattle.hq_model.specs.Permission.{role_of}

@@ -1,11 +1,11 @@
 use Rattle.std.proofs.lemmas.Bool.{and_parts}
 use Rattle.hq_model.specs.Permission.{role_of}
 use Rattle.hq_model.specs.Schema.{schema_of}
-use Rattle.hq_laws_copy_replies.specs.Replies.Requests.Laws.{session_view}
+use Rattle.hq_laws_copy_replies.specs.Requests.Laws.{session_view}
 use Rattle.hq_laws_copy.specs.Views.Laws.{numbers}
 use Rattle.hq_schema_of_role.specs.RoleSchema.{role_schema}
 use Rattle.hq_schema_roles.specs.Access.{access_of}
-use Rattle.hq_laws_copy_replies.proofs.Replies.Requests.Requests.{renumbered}
+use Rattle.hq_laws_copy_replies.proofs.Requests.Requests.{renumbered}
 use Rattle.hq_laws_copy_replies.proofs.requests.copied_requests_are_renumbered.Goals as goal
 
 pub returns : goal.returns
