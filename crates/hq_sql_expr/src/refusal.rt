@@ -2,7 +2,6 @@
 ghost use Rattle.std.specs.Prelude.{◌≡◌};
 ghost use Rattle.hq_sql_expr.specs.declared.refusal.ReadRefusal.TheVariants.{Memory};
 
-use hq_base::Memory;
 use std::alloc::{AllocError, AllocFailed};
 use thiserror::Error;
 
@@ -28,14 +27,6 @@ impl<T: Drop> From<AllocFailed<T>> for ReadRefusal {
     ghost from_gives = { λ _ e. e ≡ Memory };
 
     fn from(_: AllocFailed<T>) -> ReadRefusal {
-        ReadRefusal::Memory
-    }
-}
-
-impl From<Memory> for ReadRefusal {
-    ghost from_gives = { λ _ e. e ≡ Memory };
-
-    fn from(_: Memory) -> ReadRefusal {
         ReadRefusal::Memory
     }
 }
