@@ -165,8 +165,8 @@ written_on_good tables d t c ty here name path j = by (column_operator_named nam
 
 -- a value that a column is to equal
 equals_good : (tables : List Table) (d : MetaTree) (t c : ℕ) (ty : Ty) → column_ty (schema_of tables d) t c ≡ Some ty
-    → (path : List ℕ) (j : JsonTree) → IfOk (single_due c ty (operator (Compare Eq) false) path j) (Good 1 tables d t)
-equals_good tables d t c ty here path j = tested_good tables d t c ty here (operator (Compare Eq) false) refl path j One refl
+    → (path : List ℕ) (j : JsonTree) → IfOk (condition_due c ty path (Some (operator (Compare Eq) false)) j) (Good 1 tables d t)
+equals_good tables d t c ty here path j = condition_good tables d t c ty here path (Some (operator (Compare Eq) false)) j
 
 -- the conditions of members that are each read as a good one
 each_good : (tables : List Table) (d : MetaTree) (t : ℕ) (read : List ℕ → List ℕ → JsonTree → Result BexpTree FilterRefusal)
@@ -193,7 +193,7 @@ column_good tables d t c ty here path (bool b) = equals_good tables d t c ty her
 column_good tables d t c ty here path (int n) = equals_good tables d t c ty here path (int n)
 column_good tables d t c ty here path (str x) = equals_good tables d t c ty here path (str x)
 column_good tables d t c ty here path (arr js) =
-    ok_weaker (single_due c ty (operator (Compare Eq) false) path (arr js)) (Good 1 tables d t)
+    ok_weaker (condition_due c ty path (Some (operator (Compare Eq) false)) (arr js)) (Good 1 tables d t)
     (Good (suc (2 * nesting (arr js))) tables d t) (λ b h. good_more 1 (suc (2 * nesting (arr js))) tables d t b (omega arith) h)
     (equals_good tables d t c ty here path (arr js))
 

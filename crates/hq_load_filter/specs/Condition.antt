@@ -73,7 +73,7 @@ abbrev pub written_on : SchemaTable → (c : ℕ) → Ty → (name path : List �
 written_on x c ty name path j = named_due x c ty name path j (column_operator_named name)
 
 -- The conditions on column c of a table, which is of a type: all operators of an object, in order, each at the path of its
--- member; any other value stands for `_eq`, and is an operand at the column's own path.
+-- member; any other value stands for `_eq`, whose operand it is at the column's own path.
 abbrev pub column_due : SchemaTable → (c : ℕ) → Ty → (path : List ℕ) → JsonTree → Result BexpTree FilterRefusal
 column_due x c ty path (obj ms) = mapped conjunction (each_member (written_on x c ty) path (member_list ms))
-column_due x c ty path j = single_due c ty (operator (Compare Eq) false) path j
+column_due x c ty path j = condition_due c ty path (Some (operator (Compare Eq) false)) j

@@ -243,7 +243,7 @@ pub fn conditions_on(
                 negated: false,
             };
             let ty = scope.column_type(t, col);
-            single(alloc, col, ty, equals, path, json)
+            condition(alloc, col, ty, path, Some(equals), json)
         }
     }
 }

@@ -1,5 +1,5 @@
 -- Reading a select from left to right.
-use Rattle.std.specs.Prelude.{◌≡◌, ℕ, zero, suc, Bool, false, ◌||◌, List, [], ◌∷◌, length, Option, Some, None, option_map, is_some, Result, Ok, Err, ◌==◌, if◌then◌else◌}
+use Rattle.std.specs.Prelude.{ℕ, zero, suc, Bool, false, ◌||◌, List, [], ◌∷◌, length, Option, Some, None, is_some, ◌==◌, if◌then◌else◌}
 use Rattle.hq_model.specs.Tests.{arity}
 use Rattle.hq_model.specs.declared.test.Test.{Test}
 use Rattle.hq_model.specs.declared.test.Arity.{Arity}
@@ -10,8 +10,6 @@ use Rattle.hq_sql_tree.specs.Form.{is_rows, reads_as_fold}
 use Rattle.hq_sql_tree.specs.Word.{all_tests, test_word}
 use Rattle.hq_sql_tree.specs.Tree as tree
 use Rattle.hq_sql_tree.specs.Tree.{ExprTree, OrderTree, OutTree, SelectTree, FromTree, JoinTree, FilterTree, PredTree, joins_of, preds_of}
-use Rattle.hq_sql_expr.specs.declared.refusal.ReadRefusal.{ReadRefusal}
-use Rattle.hq_sql_expr.specs.declared.refusal.ReadRefusal.TheVariants.{NotSql, Memory}
 use Rattle.hq_sql_expr.specs.Reading.{◌>>=◌, Reader, nothing, below, choose, first_of, after, first_word, all_many, name_at, number_at, cast_at, expr_at, argument_with, order_with, out_with, closed_exprs}
 
 -- a list behind a word, or none
@@ -27,12 +25,6 @@ abbrev pub count_at : Word → Reader (Option ℕ)
 count_at w bytes = choose (after w bytes) (λ rest. number_at rest >>= λ n. Some (Some n.0, n.1)) (Some (None, bytes))
 
 -- ---- conditions
-
--- a function's answer, seen by view, is what the reader finds, or none where it finds nothing; memory may always run out
-abbrev pub Finds : {X Y : Type 0} → (X → Y) → Result (Option X) ReadRefusal → Option Y → Type 0
-Finds view (Ok o) given = given ≡ option_map view o
-Finds view (Err Memory) given = Unit {0}
-Finds view (Err NotSql) given = ⊥
 
 -- the test whose operator stands here
 unfoldable pub test_at : Reader Test

@@ -9,6 +9,7 @@ ghost use Rattle.hq_sql_text.specs.Reading.{clause_with, aliased_with, from_with
 use crate::clauses::{distinct_clause, one_of, order_clause, out_list, table_of};
 use crate::parts::{End, add_first, add_last, boxed, boxed_from, counts_of, rows_of};
 use crate::tested::{asked_boxed, cast_of, is_member_next, tested_of};
+use hq_base::Memory;
 use hq_sql_expr::{ReadRefusal, read_name, skip, starts};
 use hq_sql_tree::{From, Join, JoinList, Pred, PredList, Select, Word};
 use std::alloc::Global;
@@ -81,8 +82,10 @@ fn inside_of(alloc: Global, depth: u32, bytes: &[u8]) -> Result<(Box<Pred>, &[u8
     if let Some(rest) = starts(bytes, Word::Not) {
         return negated_of(alloc, depth, rest);
     }
-    if let Some((value, rest)) = cast_of(alloc, bytes)? {
-        return asked_boxed(alloc, depth, value, rest);
+    match cast_of(alloc, bytes) {
+        Err(Memory) => return Err(ReadRefusal::Memory),
+        Ok(Some((value, rest))) => return asked_boxed(alloc, depth, value, rest),
+        Ok(None) => {}
     }
     if is_member_next(bytes) {
         return joined_of(alloc, depth, bytes);

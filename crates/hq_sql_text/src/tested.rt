@@ -1,11 +1,12 @@
 //! Reading tests of values.
-ghost use Rattle.std.specs.Prelude.{◌≡◌, List, ℕ, map};
+ghost use Rattle.std.specs.Prelude.{◌≡◌, List, ℕ, map, option_map, IfOk};
 ghost use Rattle.hq_model.specs.declared.test.Arity.TheVariants as arities;
 ghost use Rattle.hq_sql_tree.specs.View.{expr_view, pred_view};
 ghost use Rattle.hq_sql_expr.specs.Reading.{Reads, after};
-ghost use Rattle.hq_sql_text.specs.Reading.{Finds, cast_next, joint_behind, joint_next, member_next, test_at, operands_at, test_with, tested_at};
+ghost use Rattle.hq_sql_text.specs.Reading.{cast_next, joint_behind, joint_next, member_next, test_at, operands_at, test_with, tested_at};
 
 use crate::parts::boxed;
+use hq_base::Memory;
 use hq_model::{Arity, Test};
 use hq_sql_expr::{
     ReadRefusal, read_cast, read_closed_expr, read_closed_exprs, read_expr, skip, starts,
@@ -94,11 +95,8 @@ pub(crate) fn asked_boxed(
 
 /// A column that is written by its text, where one stands here in its parentheses.
 #[inline(never)]
-pub(crate) fn cast_of(
-    alloc: Global,
-    bytes: &[u8],
-) -> Result<Option<(Box<Expr>, &[u8])>, ReadRefusal>
-    ensures { Finds (λ x. (expr_view x.0.value, x.1.now)) result (cast_next bytes.now) }
+pub(crate) fn cast_of(alloc: Global, bytes: &[u8]) -> Result<Option<(Box<Expr>, &[u8])>, Memory>
+    ensures { IfOk result (λ found. cast_next bytes.now ≡ option_map (λ x. (expr_view x.0.value, x.1.now)) found) }
 {
     let Some(rest) = starts(bytes, Word::Open) else {
         return Ok(None);
@@ -109,7 +107,7 @@ pub(crate) fn cast_of(
             Ok(Some((value, rest)))
         }
         Err(ReadRefusal::NotSql) => Ok(None),
-        Err(ReadRefusal::Memory) => Err(ReadRefusal::Memory),
+        Err(ReadRefusal::Memory) => Err(Memory),
     }
 }
 
