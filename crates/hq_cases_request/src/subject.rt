@@ -22,7 +22,6 @@ pub enum About {
     Runs,
     Explain,
     Confine,
-    Copy,
     Serving,
     Live,
     Statements,
@@ -31,7 +30,7 @@ pub enum About {
 
 impl About {
     /// Each subject, in the order of its line.
-    pub const ALL: [About; 23] = [
+    pub const ALL: [About; 22] = [
         About::Worked,
         About::Blog,
         About::Shop,
@@ -50,7 +49,6 @@ impl About {
         About::Runs,
         About::Explain,
         About::Confine,
-        About::Copy,
         About::Serving,
         About::Live,
         About::Statements,
@@ -79,7 +77,6 @@ impl Subject for About {
             About::Runs => "runs",
             About::Explain => "explain",
             About::Confine => "confine",
-            About::Copy => "copy",
             About::Serving => "serving",
             About::Live => "live",
             About::Statements => "statements",

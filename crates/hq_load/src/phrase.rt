@@ -45,7 +45,6 @@ pub enum Phrase {
     Tables,
     Roles,
     Rows,
-    Copy,
 }
 
 impl Phrase {
@@ -99,7 +98,6 @@ impl Phrase {
             Phrase::Tables => b" tables, ",
             Phrase::Roles => b" roles, ",
             Phrase::Rows => b" rows",
-            Phrase::Copy => b"copy:",
         }
     }
 }

@@ -1,4 +1,0 @@
-pub mod Lent
-pub mod Kept
-pub mod Pinned
-pub mod Equal

@@ -1,3 +1,0 @@
-pub mod Parts
-pub mod Lists
-pub mod Clean

@@ -1,3 +1,0 @@
-mod Plain
-mod Writable
-pub mod Answers
