@@ -1,5 +1,5 @@
 //! The arguments of one field, by what the field stands for.
-ghost use Rattle.std.specs.Prelude.{◌≡◌, map, codes};
+ghost use Rattle.std.specs.Prelude.{◌≡◌, Some, map, codes};
 ghost use Rattle.hq_request_tree.specs.Arguments.{arguments_view, sort_view};
 ghost use Rattle.hq_base.specs.Due.{Gives, mapped};
 ghost use Rattle.hq_request_coerce.specs.declared.refusal.CoerceRefusal.TheVariants as coerce_refusal;
@@ -146,6 +146,25 @@ fn flag_of(
     flag(given_named(alloc, context, args, arguments, name)?)
 }
 
+// The values of a column of a table that are counted, where they can be.
+fn counting_values(
+    context: &Context<'_>,
+    t: TableId,
+    col: ColId,
+    distinct: bool,
+) -> Result<FieldArgs, ArgRefusal>
+    ensures { Gives field_args_view refusal.Memory (counting (context_view context.now) t (Some col) distinct) result }
+{
+    if is_counted(context, t, col, distinct) {
+        Ok(FieldArgs::Count {
+            col: Some(col),
+            distinct,
+        })
+    } else {
+        Err(ArgRefusal::Rule(RuleId::UnorderedColumn))
+    }
+}
+
 // What is counted of a table, where it can be.
 fn counting(
     context: &Context<'_>,
@@ -155,10 +174,12 @@ fn counting(
 ) -> Result<FieldArgs, ArgRefusal>
     ensures { Gives field_args_view refusal.Memory (counting (context_view context.now) t col distinct) result }
 {
-    if is_counted(context, t, col, distinct) {
-        Ok(FieldArgs::Count { col, distinct })
-    } else {
-        Err(ArgRefusal::Rule(RuleId::UnorderedColumn))
+    match col {
+        Some(col) => counting_values(context, t, col, distinct),
+        None => Ok(FieldArgs::Count {
+            col: None,
+            distinct,
+        }),
     }
 }
 

@@ -1,5 +1,5 @@
 //! Arguments that name columns: `distinct_on` of a list, and `columns` of `count`.
-ghost use Rattle.std.specs.Prelude.{◌≡◌, ◌≤◌, ◌==◌, ◌&&◌, IfOk, OnOk, map, option_map, length, take};
+ghost use Rattle.std.specs.Prelude.{◌≡◌, ◌≤◌, ◌==◌, ◌&&◌, IfOk, OnOk, Some, map, option_map, length, take};
 ghost use Rattle.std.specs.List.{list_all, list_any};
 ghost use Rattle.hq_request_tree.specs.Conditions.{are_sorts_of, fits_distinct, is_plain_sort};
 ghost use Rattle.hq_request_tree.specs.Arguments.{sort_view};
@@ -285,12 +285,9 @@ pub fn counted(
     }
 }
 
-/// Whether values of a column of a table are counted, or different ones alone: of the latter there is an order. Rows are always counted.
-pub fn is_counted(context: &Context<'_>, t: TableId, column: Option<ColId>, distinct: bool) -> bool
-    ensures { result ≡ is_counted (context_view context.now) t column distinct }
+/// Whether the values of a column of a table are counted, or different ones alone: of the latter there is an order.
+pub fn is_counted(context: &Context<'_>, t: TableId, column: ColId, distinct: bool) -> bool
+    ensures { result ≡ is_counted (context_view context.now) t (Some column) distinct }
 {
-    match column {
-        Some(column) => !distinct || has_order(context, t, column),
-        None => true,
-    }
+    !distinct || has_order(context, t, column)
 }
