@@ -1,6 +1,6 @@
 use Rattle.hq_model.specs.Permission.{role_of}
 use Rattle.hq_laws_confine.proofs.Own.Asks.{asks_confined}
-use Rattle.hq_laws_confine.proofs.own.session_statements_are_confined.Goals as goal
+use Rattle.hq_laws_confine.proofs.own_laws.session_statements_are_confined.Goals as goal
 
 pub returns : goal.returns
 returns c tables m session a =
