@@ -9,6 +9,7 @@ use Rattle.hq_model.specs.Database.{Row}
 use Rattle.hq_model.specs.declared.op.Op.TheVariants as op
 use Rattle.hq_model.specs.declared.test.Test.TheVariants as test
 use Rattle.hq_model.specs.declared.table.Table.{Table}
+use Rattle.hq_sql_tree.specs.declared.expr.ColumnForm.TheVariants.{Plain, Collated}
 use Rattle.hq_sql_tree.specs.Tree as tree
 use Rattle.hq_sql_tree.specs.Tree.{ExprTree, SelectTree}
 use Rattle.hq_sql_tree.specs.Meaning.{World, meaning}
@@ -41,10 +42,10 @@ world = record { tables = author ∷ []; database = authors ∷ [] }
 
 -- a column of the table, and one of the sub-select
 abbrev of_table : List ℕ → ExprTree
-of_table name = tree.column (codes "t1") name false
+of_table name = tree.column (codes "t1") name Plain
 
 abbrev of_rows : List ℕ → ExprTree
-of_rows name = tree.column (codes "s1") name false
+of_rows name = tree.column (codes "s1") name Plain
 
 -- the authors of this name, by key
 abbrev chosen : SelectTree
@@ -57,7 +58,7 @@ chosen =
     }
     ∷ record { value = of_table (codes "id"); name = codes "o0" } ∷ [])
     (tree.table (codes "public") (codes "author") (codes "t1")) tree.no_join
-    (tree.filter (tree.test (tree.column (codes "t1") (codes "name") true) (test.Compare op.Eq) (tree.text (codes "O'Hara") ∷ [])))
+    (tree.filter (tree.test (tree.column (codes "t1") (codes "name") Collated) (test.Compare op.Eq) (tree.text (codes "O'Hara") ∷ [])))
     (record { value = of_table (codes "id"); desc = false; nulls_first = false } ∷ []) None None
 
 -- their objects in a list
@@ -68,7 +69,7 @@ abbrev statement : SelectTree
 statement =
     tree.rows []
     (record
-    { value = tree.object (tree.pair (codes "author") (tree.column (codes "j1") (codes "v") false) tree.no_pair); name = codes "v" }
+    { value = tree.object (tree.pair (codes "author") (tree.column (codes "j1") (codes "v") Plain) tree.no_pair); name = codes "v" }
     ∷ [])
     (tree.one (codes "t0")) (tree.join listed (codes "j1") tree.no_join) tree.no_filter [] None None
 
@@ -94,7 +95,7 @@ worked_statement = refl
 pub unknown_alias : is_well_typed
     (tree.rows []
     (record
-    { value = tree.object (tree.pair (codes "author") (tree.column (codes "j2") (codes "v") false) tree.no_pair); name = codes "v" }
+    { value = tree.object (tree.pair (codes "author") (tree.column (codes "j2") (codes "v") Plain) tree.no_pair); name = codes "v" }
     ∷ [])
     (tree.one (codes "t0")) tree.no_join tree.no_filter [] None None)
     (author ∷ [])
