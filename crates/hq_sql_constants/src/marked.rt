@@ -31,7 +31,6 @@ fn first_column(alloc: Global) -> Result<Vec<ColId>, Memory>
 }
 
 /// These values as constants.
-#[tactic(auto, using(crate::proofs::Chosen::ones_few, crate::proofs::Chosen::constants_are))]
 pub(crate) fn constants_of(alloc: Global, values: Vec<Val>) -> Result<Constants, Memory>
     requires { length values.items < 2 ^ 31 }
     ensures { IfOk result (AreConstants values.items) }
