@@ -1,8 +1,8 @@
 //! The laws of a redacted copy's replies: its reader is answered as the session is.
 #![tactic(auto)]
 
-mod replies;
-mod requests;
+mod reply_laws;
+mod request_laws;
 
-pub use replies::copies_answer_each_body;
-pub use requests::copied_requests_are_renumbered;
+pub use reply_laws::copies_answer_each_body;
+pub use request_laws::copied_requests_are_renumbered;

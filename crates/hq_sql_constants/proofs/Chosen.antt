@@ -38,7 +38,7 @@ use Rattle.hq_sql_constants.specs.Sifted.{AreConstants, IsLeft, KeepsSame, has_c
 use Rattle.hq_sql_constants.specs.declared.marked.Constants.{Constants}
 use Rattle.hq_sql_scans.specs.Links.{has_cell}
 use Rattle.hq_sql_scans.specs.Ordered.{Finds}
-use Rattle.hq_sql_scans.specs.Positions.{kept_of, rows_at}
+use Rattle.hq_sql_scans.specs.Positions.{kept_of, positions_of, rows_at}
 use Rattle.hq_sql_scans.specs.declared.ordered.Looked.{Looked}
 use Rattle.hq_sql_scans.specs.declared.positions.Positions.{Positions}
 use Rattle.hq_sql_scans.specs.declared.ordered.Looked.TheVariants.{Arranged, Sorted, Unsorted}
@@ -178,3 +178,10 @@ left_finds js scope alias parts source looked (Some places) again finds keeps is
     ≡ kept_of js w (scope_of scope w) alias (kept (filter_view parts.filter.now) w) (rows_at source (places_looked looked)) =
     λ w. ap (λ l. kept_of js w (scope_of scope w) alias (kept (filter_view parts.filter.now) w) (map (row_in source) l)) is.1 ∙ keeps.same w (scope_of scope w) in
     subst (Finds js scope alias parts source) (sym is.0) (still_finds js scope alias parts source looked positions finds same)
+
+-- other places, which stand as those did, are left of them
+pub left_some : (looked again : Looked) (positions : Positions) (places : Vec ℕ) → again ≡ with_places looked positions
+    → positions_of positions ≡ places.items → IsLeft looked (Some places) again
+left_some (Arranged at) again positions places is e = subst (IsLeft (Arranged at) (Some places)) (sym is) (refl, e)
+left_some (Sorted at) again positions places is e = subst (IsLeft (Sorted at) (Some places)) (sym is) (refl, e)
+left_some (Unsorted at) again positions places is e = subst (IsLeft (Unsorted at) (Some places)) (sym is) (refl, e)

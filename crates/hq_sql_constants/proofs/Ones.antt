@@ -8,7 +8,9 @@ use Rattle.hq_base.specs.Cells.{CellTree, null, int, text, bool, json, cell_of}
 use Rattle.hq_base.specs.declared.value.Val.{Val}
 use Rattle.hq_base.proofs.Lists.{any_map_of, map_map}
 use Rattle.hq_model.specs.Logic.{or3, equal, among, is_true}
-use Rattle.hq_model.specs.Tests.{Test, test_truth, Among, Compare}
+use Rattle.hq_model.specs.Tests.{test_truth}
+use Rattle.hq_model.specs.declared.test.Test.{Test}
+use Rattle.hq_model.specs.declared.test.Test.TheVariants.{Among, Compare}
 use Rattle.hq_model.specs.declared.op.Op.TheVariants.{Eq}
 use Rattle.hq_model.specs.declared.truth.Truth.{Truth}
 use Rattle.hq_model.specs.declared.truth.Truth.TheVariants.{Yes, No, Unknown}

@@ -4,7 +4,8 @@ use Rattle.std.specs.List.{list_any}
 use Rattle.hq_base.specs.Cells.{CellTree, cell_of}
 use Rattle.hq_base.specs.declared.value.Val.{Val}
 use Rattle.hq_model.specs.Logic.{equal, is_true}
-use Rattle.hq_model.specs.Tests.{Test, test_truth}
+use Rattle.hq_model.specs.Tests.{test_truth}
+use Rattle.hq_model.specs.declared.test.Test.{Test}
 use Rattle.hq_model.specs.declared.truth.Truth.TheVariants.{Yes}
 use Rattle.hq_sql_tree.specs.Meaning.{Scope as Names, World, cell_named, truth_at}
 use Rattle.hq_sql_tree.specs.Tree.{PredTree}

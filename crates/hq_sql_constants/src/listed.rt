@@ -92,7 +92,7 @@ fn of_pred(alloc: Global, pred: &Pred, alias: &Txt, name: &Txt) -> Result<Option
 }
 
 fn with_more(values: Vec<Val>, more: Vec<Val>) -> Result<Vec<Val>, Memory>
-    ensures { IfOk result (λ all. all.items ≡ values.entry.items ++ more.entry.items) }
+    ensures { IfOk result (λ all. all.items ≡ values.items ++ more.items) }
 {
     let mut all = values;
     let mut more = more;
@@ -206,7 +206,7 @@ pub(crate) fn is_many(pred: &Pred) -> bool {
 
 // The column of this name with these constants, where they are many.
 fn listed_if<'d>(name: &'d Txt, values: Vec<Val>) -> Option<Listed<'d>>
-    ensures { IfSome result (λ l. (l.name.now ≡ name.now) × (l.values.items ≡ values.entry.items)) }
+    ensures { IfSome result (λ l. (l.name.now ≡ name.now) × (l.values.items ≡ values.items)) }
 {
     if values.len() < FEW {
         return None;
@@ -232,7 +232,7 @@ fn of_member<'d>(
 }
 
 /// The column of an alias that a condition asks to be one of many constants, with these.
-pub(crate) fn listed<'d>(
+pub(crate) fn listed_in<'d>(
     alloc: Global,
     pred: &'d Pred,
     alias: &Txt,

@@ -31,10 +31,9 @@ fn first_column(alloc: Global) -> Result<Vec<ColId>, Memory>
 }
 
 /// These values as constants.
-#[tactic(auto, using(crate::proofs::Chosen::ones_few, crate::proofs::Chosen::constants_are))]
 pub(crate) fn constants_of(alloc: Global, values: Vec<Val>) -> Result<Constants, Memory>
     requires { length values.items < 2 ^ 31 }
-    ensures { IfOk result (AreConstants values.entry.items) }
+    ensures { IfOk result (AreConstants values.items) }
 {
     let count = values.len();
     let grid = Grid::of(1, count, values);

@@ -1,7 +1,7 @@
 //! Scans without the places at whose rows WHERE is not true.
 ghost use Rattle.std.specs.Prelude.{◌≡◌, map, IfOk, IfSome, false};
 ghost use Rattle.hq_sql_constants.specs.Listed.{AsksOneOf};
-ghost use Rattle.hq_sql_constants.specs.Sifted.{IsLeft, KeepsSame, places_looked};
+ghost use Rattle.hq_sql_constants.specs.Sifted.{IsLeft, KeepsSame, places_looked, with_places};
 ghost use Rattle.hq_sql_access.specs.Equations.{is_joined};
 ghost use Rattle.hq_sql_access.specs.Lent.{rows_lent};
 ghost use Rattle.hq_sql_access.specs.View.{row_in};
@@ -10,7 +10,7 @@ ghost use Rattle.hq_sql_scans.specs.Positions.{rows_at};
 ghost use Rattle.hq_sql_tree.specs.Tree.{filter as filtered, joins_of};
 ghost use Rattle.hq_sql_tree.specs.View.{filter_view, join_view, pred_view};
 
-use crate::listed::{Listed, is_many, listed};
+use crate::listed::{Listed, is_many, listed_in};
 use crate::marked::{constants_of, places_with};
 use hq_base::{Memory, Txt};
 use hq_load_tables::Rows;
@@ -77,7 +77,7 @@ fn sifted_rows<'d>(
     let Some(rows) = stored.rows else {
         return Ok(None);
     };
-    match listed(alloc, pred, alias)? {
+    match listed_in(alloc, pred, alias)? {
         Some(asked) => sifted_by(alloc, stored, rows, alias, joins, pred, asked, positions),
         None => Ok(None),
     }
@@ -107,6 +107,17 @@ fn sifted<'s, 'd>(
     sifted_rows(alloc, stored, alias, joins, pred, positions)
 }
 
+// The places at which a scan looks, however they stand.
+fn places_looked(looked: Looked<'_>) -> Positions<'_>
+    ensures { result ≡ places_looked looked.entry }
+{
+    match looked {
+        Looked::Arranged(positions) => positions,
+        Looked::Sorted(positions) => positions,
+        Looked::Unsorted(positions) => positions,
+    }
+}
+
 /// Those of the places at which a scan looks that WHERE may keep a row at, where it asks a column to be one of many constants; None
 /// where all are to be tried.
 pub fn left_of<'s, 'd>(
@@ -122,10 +133,17 @@ pub fn left_of<'s, 'd>(
         (λ places. KeepsSame (joins_of (map join_view joins.now)) alias.now (filter_view filter.now)
         (map (row_in source.entry) places.items) (rows_at source.entry (places_looked looked.entry)))) }
 {
+    sifted(alloc, source, alias, joins, filter, places_looked(looked))
+}
+
+// Other places, which stand as those did.
+fn with_places<'p>(looked: Looked<'p>, positions: Positions<'p>) -> Looked<'p>
+    ensures { result ≡ with_places looked.entry positions.entry }
+{
     match looked {
-        Looked::Arranged(positions) | Looked::Sorted(positions) | Looked::Unsorted(positions) => {
-            sifted(alloc, source, alias, joins, filter, positions)
-        }
+        Looked::Arranged(_) => Looked::Arranged(positions),
+        Looked::Sorted(_) => Looked::Sorted(positions),
+        Looked::Unsorted(_) => Looked::Unsorted(positions),
     }
 }
 
@@ -135,11 +153,7 @@ pub fn with_left<'p>(looked: Looked<'p>, left: &'p Option<Vec<u32>>) -> Looked<'
 {
     match left {
         None => looked,
-        Some(places) => match looked {
-            Looked::Arranged(_) => Looked::Arranged(Positions::Entries(places.as_slice())),
-            Looked::Sorted(_) => Looked::Sorted(Positions::Entries(places.as_slice())),
-            Looked::Unsorted(_) => Looked::Unsorted(Positions::Entries(places.as_slice())),
-        },
+        Some(places) => with_places(looked, Positions::Entries(places.as_slice())),
     }
 }
 

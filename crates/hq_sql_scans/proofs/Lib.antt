@@ -7,3 +7,4 @@ pub mod KeySets
 pub mod InOrder
 pub mod Enough
 pub mod Tops
+pub mod Patterns

@@ -35,6 +35,16 @@ fn like_truth(matcher: &Matcher, cell: &Cell<'_>) -> Truth
     }
 }
 
+// What LIKE by a pattern says of a cell, where one of the matchers is of the pattern.
+fn matched_by(matchers: &[Matcher], pattern: &Txt, fold: bool, cell: &Cell<'_>) -> Option<Truth>
+    ensures { IfSome result (λ t. t ≡ matched fold (cell_view cell.now) (text_cell pattern.now)) }
+{
+    match matcher_of(matchers, pattern, fold) {
+        Some(matcher) => Some(like_truth(matcher, cell)),
+        None => None,
+    }
+}
+
 /// What LIKE says of a cell, where the operand is a text that one of the matchers is of.
 pub fn known_like(
     matchers: &[Matcher],
@@ -50,6 +60,5 @@ pub fn known_like(
     let Expr::Text(pattern) = operand else {
         return None;
     };
-    let matcher = matcher_of(matchers, pattern, fold)?;
-    Some(like_truth(matcher, cell))
+    matched_by(matchers, pattern, fold, cell)
 }

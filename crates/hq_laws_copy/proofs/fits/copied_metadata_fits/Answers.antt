@@ -1,5 +1,0 @@
-use Rattle.hq_laws_copy.proofs.Fits.Answers.{catalog_fits}
-use Rattle.hq_laws_copy.proofs.fits.copied_metadata_fits.Goals as goal
-
-pub returns : goal.returns
-returns c = catalog_fits

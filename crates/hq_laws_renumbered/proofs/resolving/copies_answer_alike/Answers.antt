@@ -1,5 +1,0 @@
-use Rattle.hq_laws_renumbered.proofs.Resolving.Answers.{answered_alike}
-use Rattle.hq_laws_renumbered.proofs.resolving.copies_answer_alike.Goals as goal
-
-pub returns : goal.returns
-returns c = answered_alike

@@ -1,5 +1,0 @@
-use Rattle.hq_laws_renumbered.proofs.Schemas.Answers.{schema_same}
-use Rattle.hq_laws_renumbered.proofs.schemas.numbers_change_origins_alone.Goals as goal
-
-pub returns : goal.returns
-returns c = schema_same
