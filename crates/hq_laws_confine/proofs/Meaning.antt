@@ -12,4 +12,4 @@ mod Written
 mod Links
 mod Means
 mod InOrder
-mod Theorem
+pub mod Theorem

@@ -3,4 +3,4 @@ mod Using
 mod Places
 mod Masked
 mod Granted
-mod Asks
+pub mod Asks

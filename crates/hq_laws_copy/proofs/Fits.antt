@@ -1,4 +1,4 @@
-mod Texts
+pub mod Texts
 pub mod Held
 mod Unkept
 mod Extras
@@ -7,4 +7,4 @@ mod Catalogs
 pub mod Entries
 mod Named
 mod Metas
-mod Answers
+pub mod Answers

@@ -1,3 +1,3 @@
 mod Values
 mod Rows
-mod Answers
+pub mod Answers

@@ -1,4 +1,4 @@
 mod Types
 mod Shown
 mod Links
-mod Answers
+pub mod Answers

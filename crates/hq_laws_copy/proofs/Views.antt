@@ -5,5 +5,5 @@ pub mod Cells
 pub mod Numbers
 pub mod Order
 pub mod Copy
-mod Answers
+pub mod Answers
 mod Worked

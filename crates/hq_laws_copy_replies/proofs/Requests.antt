@@ -2,4 +2,4 @@ mod Shown
 mod OfRole
 mod Alike
 mod Bound
-mod Requests
+pub mod Requests

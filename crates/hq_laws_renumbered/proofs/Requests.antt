@@ -11,4 +11,4 @@ mod Known
 mod Introspected
 mod Summaries
 mod Rows
-mod Roots
+pub mod Roots

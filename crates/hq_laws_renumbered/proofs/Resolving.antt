@@ -1,2 +1,2 @@
 mod Alike
-mod Answers
+pub mod Answers

@@ -5,6 +5,6 @@ mod Nodes
 mod Rules
 mod Values
 mod Overlaps
-mod Faults
-mod Coerced
-mod Introspected
+pub mod Faults
+pub mod Coerced
+pub mod Introspected

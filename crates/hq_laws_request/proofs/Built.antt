@@ -19,6 +19,6 @@ mod Orders
 mod Arguments
 mod Walking
 mod Binding
-mod Law
+pub mod Law
 mod Constants
-mod Requests
+pub mod Requests

@@ -17,10 +17,10 @@ mod Roots
 mod Binding
 mod Collecting
 mod Weakened
-mod Building
+pub mod Building
 mod Worked
 mod BodyNest
 mod CoercedNest
-mod MadeFormed
+pub mod MadeFormed
 mod Steps
 mod VariablesNest

@@ -4,5 +4,5 @@ mod Front
 mod Fields
 mod Headers
 mod Rows
-mod Whole
+pub mod Whole
 mod Worked
