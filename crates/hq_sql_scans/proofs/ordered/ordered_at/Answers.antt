@@ -21,5 +21,5 @@ returns-in-Some c =
     let order = c.args.parts.order.now.items in
     let sorted : FindsArranged js c.args.scope.now c.args.alias.now (filter_view c.args.parts.filter.now) [] (map order_view order) c.args.source (rows_at c.args.source c.walked.result) =
     rw (c.walked.ensures, ← c.as_slice-order.ensures.value) (c.in-Some.ensures c.args.scope.now (filter_view c.args.parts.filter.now)) in
-    subst (Finds js c.args.scope.now c.args.alias.now c.args.parts c.args.source) (sym c.standing.ensures)
+    subst (Finds js c.args.scope.now c.args.alias.now c.args.parts c.args.source) (sym c.standing-in-Some.ensures)
     (stands js c.args.scope.now c.args.alias.now c.args.parts c.args.source c.walked.result _ refl sorted)
