@@ -389,15 +389,8 @@ fn keys_over<'d>(
     if truths.len() != rows.len() {
         return Ok(None);
     }
-    let set = key_set(
-        alloc,
-        pred,
-        rows,
-        &truths,
-        &links.columns,
-        links.exprs,
-        world,
-    )?;
+    let exprs = links.exprs;
+    let set = key_set(alloc, pred, rows, &truths, &links.columns, exprs, world)?;
     Ok(Some(set))
 }
 
