@@ -456,22 +456,6 @@ pages::page-returns-in-Some t c =
     (finds (world_of c.args.world.now)))
     c.page_top.ensures
 
-pub pages::page-returns-in-None : goal.pages::page-returns-in-None
-pages::page-returns-in-None t c =
-    let js = joins_of (map join_view c.args.joins.now) in
-    let D = map expr_view c.args.parts.distinct.now.items in
-    let K = map order_view c.args.parts.order.now.items in
-    let finds : FindsAll js c.args.scope.now c.args.alias.now (filter_view c.args.parts.filter.now) c.args.source
-    (rows_at c.args.source c.in-Unsorted.at) =
-    rw c.in-Unsorted.is at
-    (left_finds js c.args.scope.now c.args.alias.now c.args.parts c.args.source c.in_ok-looked.looked c.in_ok-left.left
-    c.with_left-asked.result c.in_ok-looked.ensures c.in_ok-left.ensures c.with_left-asked.ensures) in
-    IfOk-weaker c.page_sorted.result _ _
-    (λ places h. h
-    ∙ ap (λ l. limited c.args.limit (offset_by c.args.offset (distinct_on D (sort (order_cmp K) l))))
-    (finds (world_of c.args.world.now)))
-    c.page_sorted.ensures
-
 pub pages::page_front-returns : goal.pages::page_front-returns
 pages::page_front-returns t c =
     let js = joins_of (map join_view c.args.joins.now) in
@@ -569,9 +553,10 @@ pages::page_grouped-returns-then-has_enough t c =
     let P = names_at c.args.source a js w n in
     let rs = rows_at c.args.source c.args.positions in
     let firsts = c.loop-next.firsts.items in
+    let long : c.loop-next.firsts.len ≡ length firsts = omega (arith, c.loop-next.firsts.ok.0) in
     ap (map P) c.paged-page.ensures ∙ paged_map P c.args.limit c.args.offset firsts
     ∙ group_page js w n a keeps D c.args.limit c.args.offset c.enough-bound.result c.loop-next.next rs (map P firsts) c.len.result
-    c.enough-bound.ensures c.loop-next.invariant.firsts (c.len.ensures ∙ sym (length-map firsts P))
+    c.enough-bound.ensures c.loop-next.invariant.firsts (c.len.ensures ∙ long ∙ sym (length-map firsts P))
     (sym c.has_enough.ensures ∙ c.if-has_enough.true)
 
 pub pages::page_grouped-returns : goal.pages::page_grouped-returns

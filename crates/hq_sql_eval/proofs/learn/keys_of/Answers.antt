@@ -24,12 +24,12 @@ keys_over-requires-clause-filters c =
     let p = pred_view c.in-Some.filter in
     let stored = c.in-Stored.stored in
     let columns = stored.now.table.now.columns in
-    let rows = c.in-Some-2.rows.now in
+    let rows = c.in-Some-rows.rows.now in
     let kept : filter_view P.filter ≡ tree.filter p = ap filter_view c.in-Some.is in
     let sel : select_view c.args.select.now ≡ tree.rows D O F J (filter_view P.filter) K None None = search (rules, select_lemmas) in
     let at : F ≡ tree.table c.in-Table.schema c.in-Table.table c.in-Table.alias = search (rules, from_lemmas) in
     let alone : J ≡ no_join = ap (λ js. joins_of (map join_view js)) (c.has_no_join.ensures c.if-not-has_no_join.false) in
-    let lent : rows_lent stored.now.rows ≡ rows = ap rows_lent c.in-Some-2.is in
+    let lent : rows_lent stored.now.rows ≡ rows = ap rows_lent c.in-Some-rows.is in
     let whole : source_view (source.Stored stored) ≡ rows_given F w [] = rw c.in-Stored.is at c.source_of.ensures in
     let given : rows_given F w [] ≡ map (named_row columns) rows = sym whole ∙ ap (map (named_row columns)) lent in
     filters_is D O F J p K w (pred_view c.args.pred.now) (select_view c.args.select.now) c.in-Table.schema c.in-Table.table c.in-Table.alias columns rows

@@ -30,7 +30,7 @@ key_set-requires-clause-keeps c =
     (subst (λ l. IsSplit (a ∷ []) (kept_one p) m c.new-closed.result.items l closed rest) c.new-rest.ensures.items c.in_ok-split.ensures) in
     let found : AreLinks c.as_slice.result.now a (lent_views c.deref.result.now) own exprs = rw c.in-Some.is at c.in_ok-links.ensures in
     let links : AreLinks columns a (lent_views rest) own exprs =
-    subst (λ cs. AreLinks cs a (lent_views rest) own exprs) c.as_slice.ensures.value (subst (λ ps. AreLinks c.as_slice.result.now a (lent_views ps) own exprs) c.deref.ensures.value found) in
+    subst (λ cs. AreLinks cs a (lent_views rest) own exprs) c.as_slice.ensures (subst (λ ps. AreLinks c.as_slice.result.now a (lent_views ps) own exprs) c.deref.ensures.value found) in
     let told : truths ≡ map (λ row. all_kept (lent_views closed) w (with_alias nothing a row)) (map (named_row columns) rows) =
     subst (λ rs. truths ≡ map (λ row. all_kept (lent_views closed) w (with_alias nothing a row)) (map (named_row columns) rs)) c.requires.lent
     (subst
