@@ -67,6 +67,7 @@ fn same_test(one: Test, other: Test) -> bool
         },
         Test::Among => matches!(other, Test::Among),
         Test::IsNull => matches!(other, Test::IsNull),
+        Test::Starts => matches!(other, Test::Starts),
         Test::Like { fold } => match other {
             Test::Like { fold: other } => fold == other,
             _ => false,

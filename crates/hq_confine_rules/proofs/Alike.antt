@@ -11,7 +11,7 @@ use Rattle.hq_model.specs.Tests.{test_truth}
 use Rattle.hq_model.specs.declared.op.Op.{Op}
 use Rattle.hq_model.specs.declared.op.Op.TheVariants.{Eq, Ne, Lt, Le, Gt, Ge}
 use Rattle.hq_model.specs.declared.test.Test.{Test}
-use Rattle.hq_model.specs.declared.test.Test.TheVariants.{Compare, Among, IsNull, Like}
+use Rattle.hq_model.specs.declared.test.Test.TheVariants.{Compare, Among, IsNull, Like, Starts}
 use Rattle.hq_sql_tree.specs.Tree as tree
 use Rattle.hq_sql_tree.specs.Tree.{ExprTree, OrderTree, OutTree, SelectTree, FromTree, JoinTrees, FilterTree, PredTree, PredTrees}
 use Rattle.hq_sql_tree.specs.Form.{is_no_join}
@@ -74,6 +74,7 @@ test_is (Compare a) (Compare b) k = ap Compare (op_is a b k)
 test_is Among Among k = refl
 test_is IsNull IsNull k = refl
 test_is (Like a) (Like b) k = ap Like (bool_is a b k)
+test_is Starts Starts k = refl
 test_is _ _ k = cc
 
 -- ---- whether bare rows over a table are there

@@ -22,7 +22,7 @@ use Rattle.hq_model.specs.declared.table.Column.{Column}
 use Rattle.hq_model.specs.declared.test.Arity.{Arity}
 use Rattle.hq_model.specs.declared.test.Arity.TheVariants.{Nothing, One, Many}
 use Rattle.hq_model.specs.declared.test.Test.{Test}
-use Rattle.hq_model.specs.declared.test.Test.TheVariants.{Compare, Among, IsNull, Like}
+use Rattle.hq_model.specs.declared.test.Test.TheVariants.{Compare, Among, IsNull, Like, Starts}
 use Rattle.hq_sql_tree.specs.Tree as tree
 use Rattle.hq_sql_tree.specs.Tree.{ExprTree, PredTree, PredTrees, preds_of}
 use Rattle.hq_translation.specs.Names.{table_alias, unit_name}
@@ -62,6 +62,7 @@ test_same (Compare op) = op_same op
 test_same Among = refl
 test_same IsNull = refl
 test_same (Like fold) = same_bool fold
+test_same Starts = refl
 
 module _ (r : Renaming) where
   column_alike : (a b name : List ℕ) (collate : Bool) → stands_for r a b ≡ true → is_alike_expr r (tree.column a name collate) (tree.column b name collate) ≡ true

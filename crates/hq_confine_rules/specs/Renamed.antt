@@ -4,7 +4,7 @@ use Rattle.std.specs.Ordering.{int_cmp, bool_cmp, is_eq}
 use Rattle.hq_model.specs.declared.op.Op.{Op}
 use Rattle.hq_model.specs.declared.op.Op.TheVariants.{Eq, Ne, Lt, Le, Gt, Ge}
 use Rattle.hq_model.specs.declared.test.Test.{Test}
-use Rattle.hq_model.specs.declared.test.Test.TheVariants.{Compare, Among, IsNull, Like}
+use Rattle.hq_model.specs.declared.test.Test.TheVariants.{Compare, Among, IsNull, Like, Starts}
 use Rattle.hq_sql_tree.specs.Tree as tree
 use Rattle.hq_sql_tree.specs.Tree.{ExprTree, OrderTree, OutTree, SelectTree, FromTree, JoinTrees, FilterTree, PredTree, PredTrees}
 use Rattle.hq_sql_tree.specs.Form.{is_no_join}
@@ -32,6 +32,7 @@ same_test (Compare op) (Compare other) = same_op op other
 same_test Among Among = true
 same_test IsNull IsNull = true
 same_test (Like fold) (Like other) = is_eq (bool_cmp fold other)
+same_test Starts Starts = true
 same_test _ _ = false
 
 -- equal expressions; no aggregate equals another, and no object but the empty one

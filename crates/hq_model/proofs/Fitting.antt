@@ -19,7 +19,7 @@ use Rattle.hq_model.specs.Filters.{constant_fits, is_pattern, test_fits}
 use Rattle.hq_model.specs.Reading.{is_whole_number, whole_number, truth_value, whole_read, truth_read, read_as, read_pattern}
 use Rattle.hq_model.specs.Tests.{applies, reads}
 use Rattle.hq_model.specs.declared.test.Test.{Test}
-use Rattle.hq_model.specs.declared.test.Test.TheVariants.{Compare, Among, IsNull, Like}
+use Rattle.hq_model.specs.declared.test.Test.TheVariants.{Compare, Among, IsNull, Like, Starts}
 use Rattle.hq_model.specs.declared.want.Want.{Want}
 use Rattle.hq_model.specs.declared.want.Want.TheVariants as want
 
@@ -71,6 +71,7 @@ reads_fit (Compare op) ty s v e = read_fits ty s v e
 reads_fit Among ty s v e = read_fits ty s v e
 reads_fit IsNull ty s v e = read_fits ty s v e
 reads_fit (Like fold) ty s v e = pattern_read s v e
+reads_fit Starts ty s v e = read_fits ty s v e
 
 text_fits : (ty : Ty) (s : List ℕ) (v : Val) → text_constant ty s ≡ Some v → constant_fits ty v ≡ true
 text_fits Integer s v e = cc
@@ -121,3 +122,4 @@ other_fits (Compare op) ty j v other is e = constant_read ty j v e
 other_fits Among ty j v other is e = constant_read ty j v e
 other_fits IsNull ty j v other is e = constant_read ty j v e
 other_fits (Like fold) ty j v other is e = absurd (no_pattern ty j v other is e)
+other_fits Starts ty j v other is e = constant_read ty j v e

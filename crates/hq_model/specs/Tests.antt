@@ -6,13 +6,13 @@ use Rattle.hq_base.specs.Cells.{CellTree}
 use Rattle.hq_base.specs.Types.{is_text}
 use Rattle.hq_base.specs.declared.value.Ty.{Ty}
 use Rattle.hq_base.specs.declared.value.Val.{Val}
-use Rattle.hq_model.specs.Logic.{Truth, truth_of, compared, among, null_test, matched}
+use Rattle.hq_model.specs.Logic.{Truth, truth_of, compared, among, null_test, matched, started}
 use Rattle.hq_model.specs.Reading.{read_as, read_pattern}
 use Rattle.hq_model.specs.declared.test.Arity.{Arity}
 use Rattle.hq_model.specs.declared.test.Arity.TheVariants.{Nothing, One, Many}
 use Rattle.hq_model.specs.declared.want.Want.{Want}
 pub use Rattle.hq_model.specs.declared.test.Test.{Test}
-pub use Rattle.hq_model.specs.declared.test.Test.TheVariants.{Compare, Among, IsNull, Like}
+pub use Rattle.hq_model.specs.declared.test.Test.TheVariants.{Compare, Among, IsNull, Like, Starts}
 
 -- how many operands each takes
 abbrev pub arity : Test → Arity
@@ -20,6 +20,7 @@ arity (Compare op) = One
 arity Among = Many
 arity IsNull = Nothing
 arity (Like fold) = One
+arity Starts = One
 
 -- as many operands as there are to be
 abbrev pub has_arity : Arity → (operands : ℕ) → Bool
@@ -43,6 +44,7 @@ applies (Compare op) ty = true
 applies Among ty = true
 applies IsNull ty = true
 applies (Like fold) ty = is_text ty
+applies Starts ty = is_text ty
 
 -- how the text of an operand is read, for a column of a type
 abbrev pub reads : Test → Ty → List ℕ → Result Val Want
@@ -50,6 +52,7 @@ reads (Compare op) ty = read_as ty
 reads Among ty = read_as ty
 reads IsNull ty = read_as ty
 reads (Like fold) ty = read_pattern
+reads Starts ty = read_as ty
 
 -- whether a value is one of none: the one test that looks at no value
 abbrev pub is_of_nothing : {A : Type 0} → Test → List A → Bool
@@ -62,3 +65,4 @@ test_truth (Compare op) c ds = compared op c (first_cell ds)
 test_truth Among c ds = among ds c
 test_truth IsNull c ds = truth_of (null_test c)
 test_truth (Like fold) c ds = matched fold c (first_cell ds)
+test_truth Starts c ds = started c (first_cell ds)

@@ -22,7 +22,7 @@ use Rattle.hq_model.specs.declared.bexp.Operands.TheVariants as operands
 use Rattle.hq_model.specs.declared.test.Arity.{Arity}
 use Rattle.hq_model.specs.declared.test.Arity.TheVariants.{Nothing, One, Many}
 use Rattle.hq_model.specs.declared.test.Test.{Test}
-use Rattle.hq_model.specs.declared.test.Test.TheVariants.{IsNull, Like}
+use Rattle.hq_model.specs.declared.test.Test.TheVariants.{IsNull, Like, Starts}
 use Rattle.hq_request_tree.specs.Conditions.{is_constant, is_bound, are_bound, is_condition}
 use Rattle.hq_sql_tree.specs.Tree as tree
 use Rattle.hq_sql_tree.specs.Tree.{ExprTree}
@@ -103,6 +103,11 @@ value_alone Bigint (Like fold) f = cc
 value_alone Text (Like fold) f = refl
 value_alone Boolean (Like fold) f = cc
 value_alone Uuid (Like fold) f = cc
+value_alone Integer Starts f = cc
+value_alone Bigint Starts f = cc
+value_alone Text Starts f = refl
+value_alone Boolean Starts f = cc
+value_alone Uuid Starts f = cc
 value_alone ty IsNull f = refl
 value_alone ty _ f = compared_of (column_alone ty) (codes "t") (codes "c") ty refl
 
