@@ -1,6 +1,6 @@
 import sys,os,subprocess
-root='/work/c/copy'
-name=sys.argv[1]; flags=sys.argv[2:]
+root=os.path.realpath(sys.argv[1])
+name=sys.argv[2]; flags=sys.argv[3:]
 deps={}
 for line in open(root+'/crates.txt'):
     line=line.strip()
@@ -31,8 +31,8 @@ for n in bl:
     else:
         uses=['core','std']+[d for d in deps[n]]
         words+=['--lib',f"{n}:{','.join(dict.fromkeys(uses))}={root}/crates/{n}/src/lib.rt"]
-inc=f'{root}/crates/{name}/out/direct'
-os.makedirs(inc,exist_ok=True)
+inc=f'{root}/out_direct'
+os.makedirs(inc,exist_ok=True); open(root+'/.git/info/exclude','a').write('out_direct\n')
 words+=['--antt-project','/opt/rattle/rattle/logic/antt-project.json','--logic-built','/opt/rattle/logic_built','--incremental',inc,'--jobs','1']+flags
 print('built',len(built),'source',[n for n in bl if n not in built],flush=True)
 os.chdir(f'{root}/crates/{name}')
