@@ -1,6 +1,6 @@
 -- What is answered to the request for a copy, by its parts.
 use Rattle.std.proofs.Common.{◌≡◌, ◌≢◌, ℕ, List, true, Option, Some, None, Result, Ok, Err, inl, inr, ⊎_elim, refl, sym, ap, ◌∙◌, subst}
-use Rattle.std.specs.Prelude.{◌⊎◌, IfSome}
+use Rattle.std.specs.Prelude.{◌⊎◌, IfErr, IfSome}
 use Rattle.hq_copy_definition.specs.Copied.{Copied}
 use Rattle.hq_copy_definition.specs.Metadata.{copied_meta}
 use Rattle.hq_copy_definition.specs.Refusals.{filter_refusal, first_of, or_else}
@@ -52,6 +52,11 @@ unfailed_tells before now (refusal.MaskedKey name) h = tt
 unfailed_tells before now (refusal.TooWide name) h = tt
 unfailed_tells before now (refusal.NotWritable name k) h = tt
 
+-- whatever is answered
+pub all_unfailed : (before now : ℕ) (x : Result Redacted CopyRefusal) → IfErr x (λ e. (b a : ℕ) → e ≢ refusal.Failed b a) → IfErr x (TellsRise before now)
+all_unfailed before now (Ok r) h = tt
+all_unfailed before now (Err e) h = unfailed_tells before now e h
+
 -- nor does one that is told
 told_unfailed : (due : Option CopyRefusal) (e : CopyRefusal) → Unfailed due → IsTold due e → (b a : ℕ) → e ≢ refusal.Failed b a
 told_unfailed due e none h b a f = ⊎_elim (λ want. cc) (λ is. none e b a is f) h
@@ -59,6 +64,16 @@ told_unfailed due e none h b a f = ⊎_elim (λ want. cc) (λ is. none e b a is 
 module _ (tables : List Table) (m : MetaTree) (session : Session) where
   abbrev s : Schema
   s = schema_of tables m
+
+  -- want of memory is an answer, whatever is due
+  pub want_answers : (e : CopyRefusal) → e ≡ refusal.Memory → (o : Option (List (List Row))) → IfSome o (λ d. Redacts (copy_due tables m session d) (Err e))
+  want_answers e want None = tt
+  want_answers e want (Some d) = told_answers (copy_due tables m session d) e (inl want)
+
+  -- and so is a failure
+  pub failure_answers : (before after : ℕ) (o : Option (List (List Row))) → IfSome o (λ d. Redacts (copy_due tables m session d) (Err (refusal.Failed before after)))
+  failure_answers before after None = tt
+  failure_answers before after (Some d) = tt
 
   -- ---- before rows are read
 
