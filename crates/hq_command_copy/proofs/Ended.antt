@@ -1,5 +1,5 @@
 -- How the command ends, by its parts.
-use Rattle.std.proofs.Common.{◌≡◌, ℕ, List, Option, Some, None, IfSome, Result, Ok, Err, inl, inr, ⊎_elim, refl, sym, ap, ◌∙◌, subst, arith}
+use Rattle.std.proofs.Common.{◌≡◌, ℕ, List, Option, Some, None, IfErr, IfSome, Result, Ok, Err, inl, inr, ⊎_elim, refl, sym, ap, ◌∙◌, subst, arith}
 use Rattle.std.specs.Prelude.{◌⊎◌}
 use Rattle.hq_base.specs.Due.{Gives, ◌>>=◌}
 use Rattle.hq_command.specs.Ending.{Answer, Ends, Output}
@@ -13,6 +13,7 @@ use Rattle.hq_copy_definition.specs.declared.refusal.CopyRefusal.TheVariants as 
 use Rattle.hq_command_copy.specs.Causes.{copy_cause, part_cause}
 use Rattle.hq_command_copy.specs.Copying.{NotFailed, OfCopy, copy_output, of_copy, of_part, text_due}
 use Rattle.hq_copy.specs.Redacting.{Redacts, TellsRise, copy_due}
+use Rattle.hq_copy.specs.declared.redacted.Redacted.{Redacted}
 use Rattle.hq_copy_text.specs.Parts.{part_due}
 use Rattle.hq_copy_text.specs.declared.refusal.PartRefusal.{PartRefusal}
 use Rattle.hq_io.specs.declared.files.File.{File}
@@ -48,6 +49,10 @@ never_fails (copy.NameTaken name) h = tt
 never_fails (copy.MaskedKey table) h = tt
 never_fails (copy.TooWide table) h = tt
 never_fails (copy.NotWritable table position) h = tt
+
+pub none_fails : (x : Result Redacted CopyRefusal) → IfErr x (TellsRise 0 0) → IfErr x NotFailed
+none_fails (Ok r) h = tt
+none_fails (Err e) h = never_fails e h
 
 -- ---- where there is no text
 

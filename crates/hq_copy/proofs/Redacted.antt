@@ -8,11 +8,16 @@ use Rattle.hq_copy_definition.specs.Sources.{Source, sources}
 use Rattle.hq_copy_definition.specs.Tables.{copied_tables}
 use Rattle.hq_copy_definition.specs.declared.refusal.CopyRefusal.{CopyRefusal}
 use Rattle.hq_copy_definition.specs.declared.refusal.CopyRefusal.TheVariants as refusal
-use Rattle.hq_model.specs.Database.{Row}
+use Rattle.hq_laws_copy.specs.Fits.Laws.{CatalogFits}
+use Rattle.hq_laws_copy.specs.Rows.Laws.{RowsFit}
+use Rattle.hq_model.specs.Catalog.{is_catalog}
+use Rattle.hq_model.specs.Database.{Row, is_database}
 use Rattle.hq_model.specs.Fits.{fits}
+use Rattle.hq_model.specs.Grants.{grants_of}
 use Rattle.hq_model.specs.Meta.{MetaTree}
 use Rattle.hq_model.specs.Permission.{Permission, role_of}
 use Rattle.hq_model.specs.Schema.{Schema, schema_of}
+use Rattle.hq_model.specs.View.{view}
 use Rattle.hq_model.specs.declared.role.Role.{Role}
 use Rattle.hq_model.specs.declared.session.Session.{Session}
 use Rattle.hq_model.specs.declared.table.Table.{Table}
@@ -130,6 +135,16 @@ module _ (tables : List Table) (m : MetaTree) (session : Session) where
     -- none does
     pub copy_given : files_of ts lists ≡ None → copy_due tables m session d ≡ Ok (record { tables = ts; meta = mv; rows = lists })
     copy_given none = made_given tables m session d fit ts mv qs lists tables_are meta_is bound_is described_is lists_are none
+
+    -- what is made of it is a catalog, a metadata that fits it, and rows that are valid for it
+    pub copy_is_whole : ((c : Copied) → CatalogFits tables m session (view s (grants_of session tables m) d) c) → ((c : Copied) → RowsFit tables m session d c)
+        → is_catalog tables ≡ true → is_database tables d ≡ true → files_of ts lists ≡ None
+        → (is_catalog ts ≡ true) × (fits ts mv ≡ true) × (is_database ts lists ≡ true)
+    copy_is_whole catalogs rows whole valid none =
+        let c : Copied = record { tables = ts; meta = mv; rows = lists } in
+        let given : copy_due tables m session d ≡ Ok c = copy_given none in
+        let fitting = catalogs c whole fit given in
+        (fitting.0, fitting.1, rows c fit valid given)
 
   -- the answer over rows is the one over the told database, which they are
   pub told_database : (o : Option (List (List Row))) (rows : List (List Row)) (x : Result Redacted CopyRefusal) → IfSome o (λ d. rows ≡ d) → Redacts (copy_due tables m session rows) x

@@ -36,7 +36,7 @@ fn width(alloc: Global, original: &Original<'_>, t: TableId) -> Result<usize, Me
     ensures within { IfOk result (λ n. n < 2 ^ 63) }
 {
     match original.scope.meta.perm(alloc, original.role, t)? {
-        Some(permission) => Ok(permission.cols.len()),
+        Some(permission) => Ok(permission.cols.as_slice().len()),
         None => Ok(0),
     }
 }

@@ -9,10 +9,14 @@ use Rattle.hq_copy_tables.proofs.places.table_place.Goals as goal
 
 pub returns-in-Some : goal.returns-in-Some
 returns-in-Some c =
-    let found = position_from_yields_List (λ (o : Source). o.entry.now.table == c.args.t) _ _ (Some c.in-Some.at) c.in-Some.ensures.ran (YieldsList-from_slice c.args.sources.now cc) (λ x b q k. search (rules, tests)) in
-    found_place (λ (o : Source). o.entry.now.table == c.args.t) c.args.sources.now c.in-Some.at found ∙ sym (place_map (λ (o : copy.Source). o.entry.table == c.args.t) source_view c.args.sources.now)
+    let xs = c.args.sources.now in
+    let test = λ (o : Source). o.entry.now.table == c.args.t in
+    let found = position_from_yields_List test _ _ (Some c.in-Some.at) c.in-Some.ensures.ran (YieldsList-from_slice xs cc) (λ x b q k. search (rules, tests)) in
+    found_place test xs c.in-Some.at found ∙ sym (place_map (λ (o : copy.Source). o.entry.table == c.args.t) source_view xs)
 
 pub returns-in-None : goal.returns-in-None
 returns-in-None c =
-    let none = position_from_yields_List (λ (o : Source). o.entry.now.table == c.args.t) _ _ None c.in-None.ensures.ran (YieldsList-from_slice c.args.sources.now cc) (λ x b q k. search (rules, tests)) in
-    no_place (λ (o : Source). o.entry.now.table == c.args.t) c.args.sources.now none ∙ sym (place_map (λ (o : copy.Source). o.entry.table == c.args.t) source_view c.args.sources.now)
+    let xs = c.args.sources.now in
+    let test = λ (o : Source). o.entry.now.table == c.args.t in
+    let none = position_from_yields_List test _ _ None c.in-None.ensures.ran (YieldsList-from_slice xs cc) (λ x b q k. search (rules, tests)) in
+    no_place test xs none ∙ sym (place_map (λ (o : copy.Source). o.entry.table == c.args.t) source_view xs)

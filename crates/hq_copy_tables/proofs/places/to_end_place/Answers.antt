@@ -9,10 +9,14 @@ use Rattle.hq_copy_tables.proofs.places.to_end_place.Goals as goal
 
 pub returns-in-Some-clause-place : goal.returns-in-Some-clause-place
 returns-in-Some-clause-place c =
-    let found = position_from_yields_List (λ (e : Extra). is_to_end (link_view c.args.link) (extra_view e)) _ _ (Some c.in-Some.at) c.in-Some.ensures.ran (YieldsList-from_slice c.args.extras.now cc) (λ x b q k. search (rules, tests)) in
-    found_place (λ (e : Extra). is_to_end (link_view c.args.link) (extra_view e)) c.args.extras.now c.in-Some.at found ∙ sym (place_map (is_to_end (link_view c.args.link)) extra_view c.args.extras.now)
+    let xs = c.args.extras.now in
+    let test = λ (e : Extra). is_to_end (link_view c.args.link) (extra_view e) in
+    let found = position_from_yields_List test _ _ (Some c.in-Some.at) c.in-Some.ensures.ran (YieldsList-from_slice xs cc) (λ x b q k. search (rules, tests)) in
+    found_place test xs c.in-Some.at found ∙ sym (place_map (is_to_end (link_view c.args.link)) extra_view xs)
 
 pub returns-in-None-clause-place : goal.returns-in-None-clause-place
 returns-in-None-clause-place c =
-    let none = position_from_yields_List (λ (e : Extra). is_to_end (link_view c.args.link) (extra_view e)) _ _ None c.in-None.ensures.ran (YieldsList-from_slice c.args.extras.now cc) (λ x b q k. search (rules, tests)) in
-    no_place (λ (e : Extra). is_to_end (link_view c.args.link) (extra_view e)) c.args.extras.now none ∙ sym (place_map (is_to_end (link_view c.args.link)) extra_view c.args.extras.now)
+    let xs = c.args.extras.now in
+    let test = λ (e : Extra). is_to_end (link_view c.args.link) (extra_view e) in
+    let none = position_from_yields_List test _ _ None c.in-None.ensures.ran (YieldsList-from_slice xs cc) (λ x b q k. search (rules, tests)) in
+    no_place test xs none ∙ sym (place_map (is_to_end (link_view c.args.link)) extra_view xs)
