@@ -41,6 +41,6 @@ folder_back None dir name headers held session answer who holds back = tt
 folder_back (Some fs) dir name headers held session answer who holds back =
     on_any (CopyReadsBack dir name headers fs) answer
     (λ content is.
-      let given : contents_due dir fs ≡ Ok held = ap (λ r. refused_as of_loading r) holds in
-      let same : held ≡ content = cc in
-      subst (λ (c : Contents). TextReadsBack (session_of headers) name c) same (subst (λ (s : Session). TextReadsBack s name held) who back))
+    let given : contents_due dir fs ≡ Ok held = ap (λ r. refused_as of_loading r) holds in
+    let same : held ≡ content = cc in
+    subst (λ (c : Contents). TextReadsBack (session_of headers) name c) same (subst (λ (s : Session). TextReadsBack s name held) who back))

@@ -109,5 +109,5 @@ refused_over (Some fs) dir name headers held session r old who holds h =
     let out : Result Output Refusal = copy_output dir name headers fs in
     ⊎_elim (λ want. subst (λ x. Ends old old out (Err x)) (sym want) tt)
     (λ due.
-      let is : out ≡ Err r = output_over dir name headers fs held session who holds ∙ ap (λ (t : Result (List ℕ) Refusal). t >>= λ text. Ok (written text)) due in
-      of_cause (λ x. out ≡ Err x → Ends old old out (Err x)) r (λ e. tt) (λ cause e. e) (causes session name held r h) is) h
+    let is : out ≡ Err r = output_over dir name headers fs held session who holds ∙ ap (λ (t : Result (List ℕ) Refusal). t >>= λ text. Ok (written text)) due in
+    of_cause (λ x. out ≡ Err x → Ends old old out (Err x)) r (λ e. tt) (λ cause e. e) (causes session name held r h) is) h

@@ -16,8 +16,8 @@ use crate::relationships::kept_relationships;
 use crate::{Link, Original, Source};
 use hq_base::{List, Memory, Txt};
 use hq_model::{
-    Bexp, ColId, ColList, Meta, Pair, PairList, Perm, PermList, PermView, Rel, RelId, RelList, TableId,
-    Tracked, TryCopy, TxtList,
+    Bexp, ColId, ColList, Meta, Pair, PairList, Perm, PermList, PermView, Rel, RelId, RelList,
+    TableId, Tracked, TryCopy, TxtList,
 };
 use std::alloc::Global;
 

@@ -7,8 +7,7 @@ use Rattle.hq_copy_tables.proofs.catalog.names_of.Goals as goal
 pub returns-in_ok-copy-in-Some-2 : goal.returns-in_ok-copy-in-Some-2
 returns-in_ok-copy-in-Some-2 c =
     let scope = c.args.scope.now in
-    let here = table_present scope.catalog.now.tables (meta_view scope.meta.now) c.args.t c.in-Some.table.now (sym c.in-Some.ensures) in
-    (
+    let here = table_present scope.catalog.now.tables (meta_view scope.meta.now) c.args.t c.in-Some.table.now (sym c.in-Some.ensures) in (
       c.in_ok-copy-in-Some.ensures ∙ sym (ap (λ (k : SchemaTable). k.schema) here),
       c.in_ok-copy-in-Some-2.ensures ∙ sym (ap (λ (k : SchemaTable). k.name) here),
     )
