@@ -31,7 +31,7 @@ for n in bl:
     else:
         uses=['core','std']+[d for d in deps[n]]
         words+=['--lib',f"{n}:{','.join(dict.fromkeys(uses))}={root}/crates/{n}/src/lib.rt"]
-inc=f'{root}/out_direct'
+inc=f"{root}/out_direct_{name}"
 os.makedirs(inc,exist_ok=True); open(root+'/.git/info/exclude','a').write('out_direct\n')
 words+=['--antt-project','/opt/rattle/rattle/logic/antt-project.json','--logic-built','/opt/rattle/logic_built','--incremental',inc,'--jobs','1']+flags
 print('built',len(built),'source',[n for n in bl if n not in built],flush=True)
