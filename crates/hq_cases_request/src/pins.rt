@@ -92,8 +92,8 @@ fn engine_over(alloc: Global, catalog: &Catalog, meta: Meta) -> Result<Engine, S
     requires { fits catalog.now.tables (meta_view meta) ≡ true }
     ensures { IfOk result (λ engine. engine.catalog.tables ≡ catalog.now.tables) }
 {
-    let catalog = catalog.copy(alloc)?;
-    Ok(Engine::new(alloc, catalog, meta)?)
+    let copy = catalog.copy(alloc)?;
+    Ok(Engine::new(alloc, copy, meta)?)
 }
 
 // Adds what comes of the two requests over what a directory holds.
