@@ -5,6 +5,9 @@ ghost use Rattle.hq_model.specs.Meta.{meta_view};
 ghost use Rattle.hq_command.specs.Ending.{NotDatabase, Silent};
 ghost use Rattle.hq_command_explain.specs.Explaining.{Explains, SilentButOfFiles, accepted, at_fault, explain_output, input_explained};
 
+ghost use Rattle.hq_schema.specs.Schema.{schema_view};
+ghost use Rattle.hq_schema_of_role.specs.RoleSchema.{role_schema};
+ghost use Rattle.hq_model.specs.Permission.{role_of};
 use hq_base::{Bytes, Memory, Txt};
 use hq_command::{Done, INPUT_LIMIT, Refusal, caller};
 use hq_engine::{Engine, Stated};
@@ -70,6 +73,32 @@ fn write_fault<K: Sink>(
     Ok(Done::Faulty)
 }
 
+// Tells of a body, in the schema of the session's role.
+fn explain_in<K: Sink>(
+    alloc: Global,
+    engine: &Engine,
+    schema: &Schema,
+    session: &Session,
+    body: &[u8],
+    out: &mut K,
+) -> Result<Done, Refusal>
+    requires short { length body.now ≤ INPUT_LIMIT }
+    requires schema { schema_view schema.now ≡ role_schema engine.now.catalog.tables (meta_view engine.now.meta) (role_of session.now.role) }
+    ensures told { Explains (K.written out.old) (K.written out.new) (input_explained engine.now.catalog.tables (meta_view engine.now.meta) session.now body.now) result }
+    ensures silent { Silent (K.written out.old) (K.written out.new) result }
+    ensures read { result ≢ Err Refusal.ReadFailed }
+    ensures write { IsErrOf result Refusal.WriteFailed → Rose (K.faults out.old) (K.faults out.new) }
+    ensures failed { IfErr result NotDatabase }
+    ensures words { result ≢ Err Refusal.BadWords }
+    ensures later { K.faults out.old ≤ K.faults out.new }
+{
+    match request(alloc, schema, &engine.catalog, &engine.meta, session, body) {
+        Ok(ask) => write_accepted(alloc, engine, session, body, &ask, out),
+        Err(RequestRefusal::Fault(fault)) => write_fault(alloc, schema, session, body, &fault, out),
+        Err(RequestRefusal::Memory) => Err(Refusal::Memory),
+    }
+}
+
 // Tells of a body.
 fn explain_over<K: Sink>(
     alloc: Global,
@@ -89,12 +118,7 @@ fn explain_over<K: Sink>(
 {
     let role = Role::of(alloc, session)?;
     let found = engine.schema(alloc, &role)?;
-    let schema = found.get();
-    match request(alloc, schema, &engine.catalog, &engine.meta, session, body) {
-        Ok(ask) => write_accepted(alloc, engine, session, body, &ask, out),
-        Err(RequestRefusal::Fault(fault)) => write_fault(alloc, schema, session, body, &fault, out),
-        Err(RequestRefusal::Memory) => Err(Refusal::Memory),
-    }
+    explain_in(alloc, engine, found.get(), session, body, out)
 }
 
 // Reads a body, and tells of it.
