@@ -3,12 +3,11 @@ ghost use Rattle.std.specs.Prelude.{◌≡◌, ◌==◌, ◌&&◌, length, map};
 ghost use Rattle.hq_sql_tree.specs.Form.{is_no_join};
 ghost use Rattle.hq_sql_tree.specs.Tree.{joins_of, preds_of};
 ghost use Rattle.hq_sql_tree.specs.View.{expr_view, filter_view, from_view, join_view, order_view, out_view, pred_view, select_view};
-ghost use Rattle.hq_confine_rules.specs.Renamed.{stands_for, same_op, same_test, is_bare, alias_of, is_from_table, same_table};
+ghost use Rattle.hq_confine_rules.specs.Renamed.{stands_for, is_bare, alias_of, is_from_table, same_table};
 ghost use Rattle.hq_confine_rules.specs.Renamed.{is_alike_expr, are_alike_exprs, is_alike_out, are_alike_outs, is_alike, are_alike, is_alike_select, is_alike_filter};
 ghost use Rattle.hq_confine_members.specs.Views.{renaming_view};
 
 use hq_base::Txt;
-use hq_model::{Op, Test};
 use hq_sql_tree::{
     Expr, ExprList, ExprPairList, From, JoinList, OrderList, Out, OutList, Pred, PredList, Select,
 };
@@ -41,36 +40,6 @@ fn stands_for(renaming: &Renaming<'_>, one: &str, other: &str) -> bool
                 *beside != other && stands_for(outer, one, other)
             }
         }
-    }
-}
-
-fn same_op(one: Op, other: Op) -> bool
-    ensures { result ≡ same_op one other }
-{
-    match one {
-        Op::Eq => matches!(other, Op::Eq),
-        Op::Ne => matches!(other, Op::Ne),
-        Op::Lt => matches!(other, Op::Lt),
-        Op::Le => matches!(other, Op::Le),
-        Op::Gt => matches!(other, Op::Gt),
-        Op::Ge => matches!(other, Op::Ge),
-    }
-}
-
-fn same_test(one: Test, other: Test) -> bool
-    ensures { result ≡ same_test one other }
-{
-    match one {
-        Test::Compare(op) => match other {
-            Test::Compare(other) => same_op(op, other),
-            _ => false,
-        },
-        Test::Among => matches!(other, Test::Among),
-        Test::IsNull => matches!(other, Test::IsNull),
-        Test::Like { fold } => match other {
-            Test::Like { fold: other } => fold == other,
-            _ => false,
-        },
     }
 }
 
@@ -246,7 +215,7 @@ pub(crate) fn is_alike(one: &Pred, other: &Pred, renaming: &Renaming<'_>) -> boo
                 operands: other_operands,
             } => {
                 is_alike_expr(value, other_value, renaming)
-                    && same_test(*test, *other_test)
+                    && test.is_same(*other_test)
                     && are_alike_exprs(operands, other_operands, renaming)
             }
             _ => false,

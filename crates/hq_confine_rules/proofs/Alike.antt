@@ -7,11 +7,8 @@ use Rattle.std.proofs.lemmas.Slice.Eq.{bytes_eq-Decides}
 use Rattle.std.proofs.lemmas.Map.Lookups.{exact_signed}
 use Rattle.hq_base.specs.Lists.{put, sort}
 use Rattle.hq_model.specs.Logic.{is_true, truth_of, not3, and3, or3}
-use Rattle.hq_model.specs.Tests.{test_truth}
-use Rattle.hq_model.specs.declared.op.Op.{Op}
-use Rattle.hq_model.specs.declared.op.Op.TheVariants.{Eq, Ne, Lt, Le, Gt, Ge}
-use Rattle.hq_model.specs.declared.test.Test.{Test}
-use Rattle.hq_model.specs.declared.test.Test.TheVariants.{Compare, Among, IsNull, Like}
+use Rattle.hq_model.specs.Tests.{test_truth, same_test}
+use Rattle.hq_model.proofs.Tests.{test_is}
 use Rattle.hq_sql_tree.specs.Columns.{same_form}
 use Rattle.hq_sql_tree.specs.Tree as tree
 use Rattle.hq_sql_tree.specs.Tree.{ExprTree, OrderTree, OutTree, SelectTree, FromTree, JoinTrees, FilterTree, PredTree, PredTrees}
@@ -19,7 +16,7 @@ use Rattle.hq_sql_tree.specs.Form.{is_no_join}
 use Rattle.hq_sql_tree.specs.Meaning.{NamedRow, cell_named, Scope, with_alias, World, rows_named, value, order_cmp, outputs, has_rows, rows_of, joined, kept, truth_at, all_true, any_true}
 use Rattle.hq_translation.proofs.Conditions.{true_and}
 use Rattle.hq_confine_rules.specs.Conjuncts.{opened, all_opened, conjuncts}
-use Rattle.hq_confine_rules.specs.Renamed.{Renaming, stands_for, same_op, same_test, is_alike_expr, are_alike_exprs, is_alike_out, are_alike_outs, is_bare, alias_of, same_table, beside, is_alike, are_alike, is_alike_select, is_alike_filter}
+use Rattle.hq_confine_rules.specs.Renamed.{Renaming, stands_for, is_alike_expr, are_alike_exprs, is_alike_out, are_alike_outs, is_bare, alias_of, same_table, beside, is_alike, are_alike, is_alike_select, is_alike_filter}
 
 -- aliases that stand for one another show one row
 abbrev pub Related : Renaming → Scope → Scope → Type 0
@@ -60,22 +57,6 @@ module _ (r : Renaming) (e f : Scope) (h : Related r e f) where
   exprs_values [] [] k = refl
   exprs_values (x ∷ xs) (y ∷ ys) k = let parts = and_parts (is_alike_expr r x y) (are_alike_exprs r xs ys) k in ap₂ (λ a l. a ∷ l) (expr_value x y parts.0) (exprs_values xs ys parts.1)
   exprs_values _ _ k = cc
-
-op_is : (a b : Op) → same_op a b ≡ true → a ≡ b
-op_is Eq Eq k = refl
-op_is Ne Ne k = refl
-op_is Lt Lt k = refl
-op_is Le Le k = refl
-op_is Gt Gt k = refl
-op_is Ge Ge k = refl
-op_is _ _ k = cc
-
-test_is : (t u : Test) → same_test t u ≡ true → t ≡ u
-test_is (Compare a) (Compare b) k = ap Compare (op_is a b k)
-test_is Among Among k = refl
-test_is IsNull IsNull k = refl
-test_is (Like a) (Like b) k = ap Like (bool_is a b k)
-test_is _ _ k = cc
 
 -- ---- whether bare rows over a table are there
 

@@ -16,13 +16,11 @@ use Rattle.hq_model.specs.declared.bexp.Operand.{Operand}
 use Rattle.hq_model.specs.declared.bexp.Operand.TheVariants.{Const, Session}
 use Rattle.hq_model.specs.declared.meta.Pair.{Pair}
 use Rattle.hq_model.specs.declared.meta.Rel.{Rel}
-use Rattle.hq_model.specs.declared.op.Op.{Op}
-use Rattle.hq_model.specs.declared.op.Op.TheVariants.{Eq, Ne, Lt, Le, Gt, Ge}
 use Rattle.hq_model.specs.declared.table.Column.{Column}
 use Rattle.hq_model.specs.declared.test.Arity.{Arity}
 use Rattle.hq_model.specs.declared.test.Arity.TheVariants.{Nothing, One, Many}
 use Rattle.hq_model.specs.declared.test.Test.{Test}
-use Rattle.hq_model.specs.declared.test.Test.TheVariants.{Compare, Among, IsNull, Like}
+use Rattle.hq_model.proofs.Tests.{op_same, test_same}
 use Rattle.hq_sql_tree.specs.declared.expr.ColumnForm.{ColumnForm}
 use Rattle.hq_sql_tree.proofs.Columns.{form_same}
 use Rattle.hq_sql_tree.specs.Tree as tree
@@ -34,7 +32,7 @@ use Rattle.hq_translation.specs.Conditions.{literal, operand_literal, joined_by_
 use Rattle.hq_translation.specs.Predicates.{link_members, link, columns_in, numbers, numbers_all, predicate, predicates, filter_mode, own_numbers, own_predicate}
 use Rattle.hq_translation.proofs.Names.{same_text, table_aliases_differ}
 use Rattle.hq_confine_rules.specs.Conjuncts.{opened, all_opened}
-use Rattle.hq_confine_rules.specs.Renamed.{Renaming, stands_for, same_op, same_test, is_alike_expr, are_alike_exprs, is_alike, are_alike, is_alike_select, is_alike_filter}
+use Rattle.hq_confine_rules.specs.Renamed.{Renaming, stands_for, is_alike_expr, are_alike_exprs, is_alike, are_alike, is_alike_select, is_alike_filter}
 use Rattle.hq_confine_rules.specs.Members.{is_written, is_one_of, stand_among}
 
 -- ---- the same
@@ -47,23 +45,6 @@ same_int : (n : ℤ) → is_eq (int_cmp n n) ≡ true
 same_int n =
     let go : (o : Ordering) → o ≡ ordering_reverse o → is_eq o ≡ true = elim [ Less ↦ λ e. cc | Equal ↦ λ e. refl | Greater ↦ λ e. cc ] in
     go (int_cmp n n) (int_cmp_total.antisymm n n)
-
-abbrev all_ops : (P : Op → Type 0) → P Eq → P Ne → P Lt → P Le → P Gt → P Ge → (op : Op) → P op
-all_ops P a b c d e f Eq = a
-all_ops P a b c d e f Ne = b
-all_ops P a b c d e f Lt = c
-all_ops P a b c d e f Le = d
-all_ops P a b c d e f Gt = e
-all_ops P a b c d e f Ge = f
-
-op_same : (op : Op) → same_op op op ≡ true
-op_same op = all_ops (λ o. same_op o o ≡ true) refl refl refl refl refl refl op
-
-pub test_same : (t : Test) → same_test t t ≡ true
-test_same (Compare op) = op_same op
-test_same Among = refl
-test_same IsNull = refl
-test_same (Like fold) = same_bool fold
 
 module _ (r : Renaming) where
   column_alike : (a b name : List ℕ) (form : ColumnForm) → stands_for r a b ≡ true → is_alike_expr r (tree.column a name form) (tree.column b name form) ≡ true

@@ -1,10 +1,7 @@
 -- Conditions that are equal up to the aliases inside EXISTS.
 use Rattle.std.specs.Prelude.{ℕ, List, [], ◌∷◌, Bool, true, false, cond, not, ◌&&◌, ◌==◌, length, Option, is_none, bytes_eq}
 use Rattle.std.specs.Ordering.{int_cmp, bool_cmp, is_eq}
-use Rattle.hq_model.specs.declared.op.Op.{Op}
-use Rattle.hq_model.specs.declared.op.Op.TheVariants.{Eq, Ne, Lt, Le, Gt, Ge}
-use Rattle.hq_model.specs.declared.test.Test.{Test}
-use Rattle.hq_model.specs.declared.test.Test.TheVariants.{Compare, Among, IsNull, Like}
+use Rattle.hq_model.specs.Tests.{same_test}
 use Rattle.hq_sql_tree.specs.Columns.{same_form}
 use Rattle.hq_sql_tree.specs.Tree as tree
 use Rattle.hq_sql_tree.specs.Tree.{ExprTree, OrderTree, OutTree, SelectTree, FromTree, JoinTrees, FilterTree, PredTree, PredTrees}
@@ -18,22 +15,6 @@ Renaming = List (List ℕ × List ℕ)
 abbrev pub stands_for : Renaming → List ℕ → List ℕ → Bool
 stands_for [] a b = false
 stands_for (r ∷ rs) a b = cond (bytes_eq r.0 a) (bytes_eq r.1 b) (not (bytes_eq r.1 b) && stands_for rs a b)
-
-abbrev pub same_op : Op → Op → Bool
-same_op Eq Eq = true
-same_op Ne Ne = true
-same_op Lt Lt = true
-same_op Le Le = true
-same_op Gt Gt = true
-same_op Ge Ge = true
-same_op _ _ = false
-
-abbrev pub same_test : Test → Test → Bool
-same_test (Compare op) (Compare other) = same_op op other
-same_test Among Among = true
-same_test IsNull IsNull = true
-same_test (Like fold) (Like other) = is_eq (bool_cmp fold other)
-same_test _ _ = false
 
 -- equal expressions; no aggregate equals another, and no object but the empty one
 abbrev pub is_alike_expr : Renaming → ExprTree → ExprTree → Bool

@@ -18,7 +18,7 @@ use Rattle.hq_model.specs.declared.bexp.Operands.TheVariants as operands
 use Rattle.hq_model.specs.declared.bexp.Operand.TheVariants.{Const, Session}
 use Rattle.hq_model.specs.declared.test.Test.{Test}
 use Rattle.hq_model.specs.declared.want.Want.{Want}
-use Rattle.hq_model.proofs.Fitting.{reads_fit, other_fits}
+use Rattle.hq_model.proofs.Tests.{reads_fit, other_fits}
 use Rattle.hq_load_filter.specs.declared.refusal.FilterRefusal.TheVariants.{BadOperand}
 use Rattle.hq_load_filter.specs.Condition.{operands_by}
 use Rattle.hq_load_filter.specs.Each.{each_element}

@@ -15,11 +15,10 @@ use Rattle.hq_base.specs.declared.value.Val.{Val}
 use Rattle.hq_base.specs.declared.value.Val.TheVariants as val
 use Rattle.hq_model.specs.Constants.{text_constant, truth_constant, constant_in}
 use Rattle.hq_model.specs.Database.{int_fits}
-use Rattle.hq_model.specs.Filters.{constant_fits, is_pattern, test_fits}
+use Rattle.hq_model.specs.Filters.{constant_fits, is_pattern}
 use Rattle.hq_model.specs.Reading.{is_whole_number, whole_number, truth_value, whole_read, truth_read, read_as, read_pattern}
-use Rattle.hq_model.specs.Tests.{applies, reads}
-use Rattle.hq_model.specs.declared.test.Test.{Test}
-use Rattle.hq_model.specs.declared.test.Test.TheVariants.{Compare, Among, IsNull, Like}
+use Rattle.hq_model.specs.Tests.{applies}
+use Rattle.hq_model.specs.declared.test.Test.TheVariants.{Like}
 use Rattle.hq_model.specs.declared.want.Want.{Want}
 use Rattle.hq_model.specs.declared.want.Want.TheVariants as want
 
@@ -59,19 +58,12 @@ read_fits Opaque s v e = let same : val.Text s ≡ v = cc in subst (λ w. consta
 read_fits Uuid s v e = uuid_ok (uuid_form s) v (form_is_uuid s) e
 
 -- a text that is read as a pattern is one
-pattern_read : (s : List ℕ) (v : Val) → read_pattern s ≡ Ok v → is_pattern v ≡ true
+pub pattern_read : (s : List ℕ) (v : Val) → read_pattern s ≡ Ok v → is_pattern v ≡ true
 pattern_read s v e = by (is_ok (pattern_of s)) refl e
   where
     by : (b : Bool) → is_ok (pattern_of s) ≡ b → cond b (Ok (val.Text s)) (Err want.Pattern) ≡ Ok v → is_pattern v ≡ true
     by true is f = let same : val.Text s ≡ v = cc in subst (λ w. is_pattern w ≡ true) same is
     by false is f = cc
-
--- the value that a text is read as for a test fits it
-pub reads_fit : (t : Test) (ty : Ty) (s : List ℕ) (v : Val) → reads t ty s ≡ Ok v → test_fits t ty v ≡ true
-reads_fit (Compare op) ty s v e = read_fits ty s v e
-reads_fit Among ty s v e = read_fits ty s v e
-reads_fit IsNull ty s v e = read_fits ty s v e
-reads_fit (Like fold) ty s v e = pattern_read s v e
 
 text_fits : (ty : Ty) (s : List ℕ) (v : Val) → text_constant ty s ≡ Some v → constant_fits ty v ≡ true
 text_fits Integer s v e = cc
@@ -111,17 +103,11 @@ text_alone (str s) v other e = cc
 text_alone (arr js) v other e = cc
 text_alone (obj ms) v other e = cc
 
-no_pattern : (ty : Ty) (j : JsonTree) (v : Val) → str_in j ≡ None → applies (Like true) ty ≡ true → constant_in ty j ≡ Some v → ⊥
+-- no constant but a text stands where a pattern is due
+pub no_pattern : (ty : Ty) (j : JsonTree) (v : Val) → str_in j ≡ None → applies (Like true) ty ≡ true → constant_in ty j ≡ Some v → ⊥
 no_pattern Text j v other is e = text_alone j v other e
 no_pattern Integer j v other is e = cc
 no_pattern Bigint j v other is e = cc
 no_pattern Boolean j v other is e = cc
 no_pattern Uuid j v other is e = cc
 no_pattern Opaque j v other is e = cc
-
--- a constant that is no text fits each test of its type
-pub other_fits : (t : Test) (ty : Ty) (j : JsonTree) (v : Val) → str_in j ≡ None → applies t ty ≡ true → constant_in ty j ≡ Some v → test_fits t ty v ≡ true
-other_fits (Compare op) ty j v other is e = constant_read ty j v e
-other_fits Among ty j v other is e = constant_read ty j v e
-other_fits IsNull ty j v other is e = constant_read ty j v e
-other_fits (Like fold) ty j v other is e = absurd (no_pattern ty j v other is e)

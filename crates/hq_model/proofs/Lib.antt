@@ -4,6 +4,7 @@ mod Lists
 pub mod Joining
 pub mod Names
 pub mod Fitting
+pub mod Tests
 pub mod Places
 pub mod Steps
 pub mod Firsts

@@ -1,6 +1,7 @@
 -- The table of tests of a value (PostgreSQL, comparison functions and operators, row and array comparisons, pattern
 -- matching).
 use Rattle.std.specs.Prelude.{ℕ, List, [], Bool, true, false, ◌==◌, Result}
+use Rattle.std.specs.Ordering.{bool_cmp, is_eq}
 use Rattle.hq_base.specs.Aggregates.{first_cell}
 use Rattle.hq_base.specs.Cells.{CellTree}
 use Rattle.hq_base.specs.Types.{is_text, is_ordered}
@@ -8,6 +9,8 @@ use Rattle.hq_base.specs.declared.value.Ty.{Ty}
 use Rattle.hq_base.specs.declared.value.Val.{Val}
 use Rattle.hq_model.specs.Logic.{Truth, truth_of, compared, among, null_test, matched}
 use Rattle.hq_model.specs.Reading.{read_as, read_pattern}
+use Rattle.hq_model.specs.declared.op.Op.{Op}
+use Rattle.hq_model.specs.declared.op.Op.TheVariants.{Eq, Ne, Lt, Le, Gt, Ge}
 use Rattle.hq_model.specs.declared.test.Arity.{Arity}
 use Rattle.hq_model.specs.declared.test.Arity.TheVariants.{Nothing, One, Many}
 use Rattle.hq_model.specs.declared.want.Want.{Want}
@@ -62,3 +65,21 @@ test_truth (Compare op) c ds = compared op c (first_cell ds)
 test_truth Among c ds = among ds c
 test_truth IsNull c ds = truth_of (null_test c)
 test_truth (Like fold) c ds = matched fold c (first_cell ds)
+
+-- two comparisons are one
+abbrev pub same_op : Op → Op → Bool
+same_op Eq Eq = true
+same_op Ne Ne = true
+same_op Lt Lt = true
+same_op Le Le = true
+same_op Gt Gt = true
+same_op Ge Ge = true
+same_op _ _ = false
+
+-- two tests are one
+abbrev pub same_test : Test → Test → Bool
+same_test (Compare op) (Compare other) = same_op op other
+same_test Among Among = true
+same_test IsNull IsNull = true
+same_test (Like fold) (Like other) = is_eq (bool_cmp fold other)
+same_test _ _ = false

@@ -1,6 +1,7 @@
 ghost use Rattle.std.specs.Prelude.{◌≡◌, bytes_eq, false, find};
 ghost use Rattle.hq_base.specs.Text.{has_zero};
 ghost use Rattle.hq_model.specs.Operators.{column_operator_name, column_operator_named, column_operators};
+ghost use Rattle.hq_model.specs.Tests.{same_op};
 
 /// A comparison.
 #[derive(Clone, Copy, PartialEq, Eq)]
@@ -41,6 +42,20 @@ impl Op {
         ensures { result ≡ column_operator_named name.now }
     {
         op_among(&Op::all(), name)
+    }
+
+    /// Whether two comparisons are one.
+    pub fn is_same(self, other: Op) -> bool
+        ensures { result ≡ same_op self other }
+    {
+        match self {
+            Op::Eq => matches!(other, Op::Eq),
+            Op::Ne => matches!(other, Op::Ne),
+            Op::Lt => matches!(other, Op::Lt),
+            Op::Le => matches!(other, Op::Le),
+            Op::Gt => matches!(other, Op::Gt),
+            Op::Ge => matches!(other, Op::Ge),
+        }
     }
 }
 

@@ -1,6 +1,6 @@
 //! The table of tests of a value.
 ghost use Rattle.std.specs.Prelude.{◌≡◌};
-ghost use Rattle.hq_model.specs.Tests.{arity, applies};
+ghost use Rattle.hq_model.specs.Tests.{arity, applies, same_test};
 
 use crate::Op;
 use hq_base::Ty;
@@ -46,6 +46,24 @@ impl Test {
             Test::Like { .. } => ty == Ty::Text,
             Test::Compare(_) | Test::Among => ty.is_ordered(),
             Test::IsNull => true,
+        }
+    }
+
+    /// Whether two tests are one.
+    pub fn is_same(self, other: Test) -> bool
+        ensures { result ≡ same_test self other }
+    {
+        match self {
+            Test::Compare(op) => match other {
+                Test::Compare(other) => op.is_same(other),
+                _ => false,
+            },
+            Test::Among => matches!(other, Test::Among),
+            Test::IsNull => matches!(other, Test::IsNull),
+            Test::Like { fold } => match other {
+                Test::Like { fold: other } => fold == other,
+                _ => false,
+            },
         }
     }
 }

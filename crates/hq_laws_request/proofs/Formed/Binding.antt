@@ -35,7 +35,7 @@ use Rattle.hq_request_tree.specs.Request.{BoundTree}
 use Rattle.hq_request_tree.specs.Conditions.{is_constant, is_bound, are_bound, is_condition}
 use Rattle.hq_request_tree.specs.WellFormed.{is_bound_mask, is_bound_table}
 use Rattle.hq_request_build.specs.Bound.{of_table, bound_of, bound_due, bounds_due}
-use Rattle.hq_model.proofs.Fitting.{reads_fit}
+use Rattle.hq_model.proofs.Tests.{reads_fit}
 use Rattle.hq_model.proofs.Permitting.{permission_fits}
 use Rattle.hq_laws_request.proofs.Formed.BuildingSteps.{mapped_ok, then_ok}
 
