@@ -1,5 +1,6 @@
 -- How a run of `live` ends, by its parts.
-use Rattle.std.proofs.Common.{◌≡◌, ◌∙◌, ℕ, List, [], Option, Some, Result, refl, ap, subst}
+use Rattle.std.proofs.Common.{◌≡◌, ◌∙◌, ℕ, true, List, [], Option, Some, Result, Ok, Err, refl, ap, subst}
+use Rattle.std.specs.Result.{is_err, OnErr}
 use Rattle.hq_io.specs.declared.files.File.{File}
 use Rattle.hq_model.specs.Database.{Row}
 use Rattle.hq_model.specs.Meta.{MetaTree}
@@ -58,3 +59,8 @@ held_talks t rule r n before after old new due next faults subs last result same
       subst (λ (k : SecretRule). ServesTalks (AllowedBySecret k) t n (standing due next faults []) last before.accepted after.accepted before.links after.links old new result) same_rule
       (subst (λ (ss : List Subscription). ServesTalks (AllowedBySecret r) t n (standing due next faults ss) last before.accepted after.accepted before.links after.links old new result) none s);
 }
+
+-- where a call failed, what is said of its failing holds
+pub where_failed : {T E : Type 0} {P : Type 0} (r : Result T E) → is_err r ≡ true → OnErr r P → P
+where_failed (Ok x) is holds = cc
+where_failed (Err e) is holds = holds
