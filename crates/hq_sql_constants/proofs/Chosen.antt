@@ -1,11 +1,11 @@
 -- Places at whose rows a column is one of constants.
-use Rattle.std.proofs.Common.{◌≡◌, ◌∙◌, ◌<◌, ◌+◌, ◌*◌, ◌^◌, ◌≤◌, ℕ, zero, suc, List, [], ◌∷◌, ◌++◌, map, filter, flat_map, length, get_or, take, Bool, true, false, ◌||◌, ◌&&◌, cond, Option, None, Some, bytes_eq, refl, sym, ap, ap₂, subst, add-one, arith}
+use Rattle.std.proofs.Common.{◌≡◌, ◌∙◌, ◌<◌, ◌+◌, ◌^◌, ◌≤◌, ⊎_elim, ℕ, List, [], ◌∷◌, ◌++◌, map, filter, flat_map, length, get_or, take, Bool, true, false, ◌||◌, cond, Option, None, Some, bytes_eq, refl, sym, ap, ap₂, subst, add-one, arith}
 use Rattle.std.specs.List.{list_any, position}
 use Rattle.std.specs.Global.{Vec}
 use Rattle.std.specs.Prelude.{IfSome}
 use Rattle.std.proofs.Math.Seq.{take-suc}
-use Rattle.std.proofs.lemmas.Bool.{false≢true}
-use Rattle.std.proofs.lemmas.List.{length-map, take_all}
+use Rattle.std.proofs.lemmas.Bool.{false≢true, cases_lt}
+use Rattle.std.proofs.lemmas.List.{length-map, take_all, get_or_past}
 use Rattle.std.proofs.lemmas.List.Concat.{flat_map-cons}
 use Rattle.std.proofs.lemmas.List.Elements.{filter-append}
 use Rattle.hq_base.specs.Cells.{CellTree, cell_of}
@@ -20,6 +20,7 @@ use Rattle.hq_load_index.specs.Indexes.{IsOver, columns_of, counted, rows_with}
 use Rattle.hq_load_index.specs.Keys.{cell_in, has_key}
 use Rattle.hq_model.specs.Database.{Row}
 use Rattle.hq_model.specs.Logic.{equal, is_true}
+use Rattle.hq_model.specs.declared.truth.Truth.TheVariants.{Yes}
 use Rattle.hq_model.specs.declared.table.Column.{Column}
 use Rattle.hq_sql_access.specs.Equations.{is_joined, key_cell}
 use Rattle.hq_sql_access.specs.Sources.{has_items}
@@ -34,7 +35,8 @@ use Rattle.hq_sql_tree.specs.Tree as tree
 use Rattle.hq_sql_tree.specs.Tree.{FilterTree, JoinTrees, PredTree}
 use Rattle.hq_sql_tree.specs.View.{filter_view}
 use Rattle.hq_sql_constants.specs.Listed.{AsksOneOf, is_one_of}
-use Rattle.hq_sql_constants.specs.Sifted.{AreConstants, IsLeft, KeepsSame, has_constant, places_looked, with_places}
+use Rattle.hq_sql_constants.specs.Patterns.{AsksLike, is_like}
+use Rattle.hq_sql_constants.specs.Sifted.{AreConstants, IsLeft, KeepsSame, MarksAll, has_constant, places_looked, with_places}
 use Rattle.hq_sql_constants.specs.declared.marked.Constants.{Constants}
 use Rattle.hq_sql_scans.specs.Links.{has_cell}
 use Rattle.hq_sql_scans.specs.Ordered.{Finds}
@@ -116,22 +118,23 @@ places_end q ps i places le so_far = so_far ∙ ap (filter q) (take_all i ps le)
 
 -- ---- what WHERE keeps
 
--- places at whose rows a column is none of the constants that a condition asks it to be may be left out
-pub sifted_is : (columns : List Column) (rows : List Row) (js : JoinTrees) (alias name : List ℕ) (p : PredTree) (vs : List Val) (at : ℕ)
-    (s : Constants) (ps : List ℕ)
-    → AsksOneOf p alias name vs → position (λ c. bytes_eq c.name name) columns ≡ Some at → AreConstants vs s → is_joined js alias ≡ false
+-- places at whose rows a column is not as a condition asks it to be may be left out
+left_is : (columns : List Column) (rows : List Row) (js : JoinTrees) (alias name : List ℕ) (p : PredTree) (good : CellTree → Bool) (at : ℕ)
+    (q : ℕ → Bool) (ps : List ℕ)
+    → ((w : World) (m : Names) → truth_at p w m ≡ Yes → good (cell_named (m alias) name) ≡ true)
+    → position (λ c. bytes_eq c.name name) columns ≡ Some at → is_joined js alias ≡ false
+    → ((k : ℕ) → q k ≡ false → good (cell_in (get_or rows k []) at) ≡ false)
     → KeepsSame js alias (tree.filter p)
-    (map (λ q. get_or (map (named_row columns) rows) q []) (filter (λ k. has_constant s (cell_in (get_or rows k []) at)) ps))
-    (map (λ q. get_or (map (named_row columns) rows) q []) ps)
-sifted_is columns rows js alias name p vs at s ps asked first are alone =
-    let f : ℕ → NamedRow = λ q. get_or (map (named_row columns) rows) q [] in
-    let q : ℕ → Bool = λ k. has_constant s (cell_in (get_or rows k []) at) in
+    (map (λ k. get_or (map (named_row columns) rows) k []) (filter q ps))
+    (map (λ k. get_or (map (named_row columns) rows) k []) ps)
+left_is columns rows js alias name p good at q ps asked first alone bad =
+    let f : ℕ → NamedRow = λ k. get_or (map (named_row columns) rows) k [] in
     let never : (w : World) (n : Names) (k : ℕ) → q k ≡ false → (m : Names) → Keeps js (with_alias n alias (f k)) m → kept (tree.filter p) w m ≡ true → ⊥ =
     λ w n k out m around e.
     let here : m alias ≡ named_row columns (get_or rows k []) = around alias alone ∙ (ap (λ b. cond b (f k) (n alias)) (same_bytes alias) ∙ sym (stored_row columns rows k)) in
     let cell : cell_named (m alias) name ≡ cell_in (get_or rows k []) at = ap (λ r. cell_named r name) here ∙ named_first columns (get_or rows k []) name at first in
-    let one = asked.asks w m (is_yes (truth_at p w m) e) in
-    false≢true (sym out ∙ sym (has_one vs s (get_or (get_or rows k []) at val.Null) are) ∙ ap (is_one_of vs) (sym cell) ∙ one) in
+    let one = asked w m (is_yes (truth_at p w m) e) in
+    false≢true (sym (bad k out) ∙ ap good (sym cell) ∙ one) in
     let none : (w : World) (n : Names) (k : ℕ) → q k ≡ false → filter (kept (tree.filter p) w) (joined js w (with_alias n alias (f k))) ≡ [] =
     λ w n k out. none_kept (kept (tree.filter p) w) (joined js w (with_alias n alias (f k)))
     (each_weaken (Keeps js (with_alias n alias (f k))) (λ m. kept (tree.filter p) w m ≡ true → ⊥) (λ m around. never w n k out m around)
@@ -140,6 +143,19 @@ sifted_is columns rows js alias name p vs at s ps asked first are alone =
     record { same = λ w n. left_out js w n alias (kept (tree.filter p) w) f q (none w n) ps }
 
 -- the same of rows that are lent
+left_at : (columns : List Column) (rows lent : List Row) (js : JoinTrees) (alias name : List ℕ) (p : PredTree) (good : CellTree → Bool)
+    (at : ℕ) (q : ℕ → Bool) (ps places : List ℕ)
+    → lent ≡ rows → ((w : World) (m : Names) → truth_at p w m ≡ Yes → good (cell_named (m alias) name) ≡ true)
+    → position (λ c. bytes_eq c.name name) columns ≡ Some at → is_joined js alias ≡ false
+    → ((k : ℕ) → q k ≡ false → good (cell_in (get_or rows k []) at) ≡ false)
+    → places ≡ filter q ps
+    → KeepsSame js alias (tree.filter p) (map (λ k. get_or (map (named_row columns) lent) k []) places) (map (λ k. get_or (map (named_row columns) lent) k []) ps)
+left_at columns rows lent js alias name p good at q ps places same asked first alone bad chosen =
+    subst (λ rs. KeepsSame js alias (tree.filter p) (map (λ k. get_or (map (named_row columns) rs) k []) places) (map (λ k. get_or (map (named_row columns) rs) k []) ps)) (sym same)
+    (subst (λ qs. KeepsSame js alias (tree.filter p) (map (λ k. get_or (map (named_row columns) rows) k []) qs) (map (λ k. get_or (map (named_row columns) rows) k []) ps)) (sym chosen)
+    (left_is columns rows js alias name p good at q ps asked first alone bad))
+
+-- places at whose rows a column is none of the constants that a condition asks it to be may be left out
 pub sifted_at : (columns : List Column) (rows lent : List Row) (js : JoinTrees) (alias name : List ℕ) (p : PredTree) (vs : List Val)
     (at : ℕ) (s : Constants) (ps places : List ℕ)
     → lent ≡ rows → AsksOneOf p alias name vs → position (λ c. bytes_eq c.name name) columns ≡ Some at → AreConstants vs s
@@ -147,9 +163,55 @@ pub sifted_at : (columns : List Column) (rows lent : List Row) (js : JoinTrees) 
     → places ≡ filter (λ k. has_constant s (cell_in (get_or rows k []) at)) ps
     → KeepsSame js alias (tree.filter p) (map (λ q. get_or (map (named_row columns) lent) q []) places) (map (λ q. get_or (map (named_row columns) lent) q []) ps)
 sifted_at columns rows lent js alias name p vs at s ps places same asked first are alone chosen =
-    subst (λ rs. KeepsSame js alias (tree.filter p) (map (λ q. get_or (map (named_row columns) rs) q []) places) (map (λ q. get_or (map (named_row columns) rs) q []) ps)) (sym same)
-    (subst (λ qs. KeepsSame js alias (tree.filter p) (map (λ q. get_or (map (named_row columns) rows) q []) qs) (map (λ q. get_or (map (named_row columns) rows) q []) ps)) (sym chosen)
-    (sifted_is columns rows js alias name p vs at s ps asked first are alone))
+    left_at columns rows lent js alias name p (is_one_of vs) at (λ k. has_constant s (cell_in (get_or rows k []) at)) ps places same asked.asks first alone
+    (λ k out. has_one vs s (get_or (get_or rows k []) at val.Null) are ∙ out) chosen
+
+-- ---- marks
+
+-- a value in a row equals another exactly where the row has that as its key
+row_key : (row : List Val) (at : ℕ) (v : Val) → is_true (equal (cell_in row at) (cell_of v)) ≡ has_key (at ∷ []) (cell_of v ∷ []) row
+row_key row at v =
+    equal_cell (get_or row at val.Null) (cell_of v) ∙ ap (has_cell (cell_in row at)) (key_of_value v)
+    ∙ sym (and_true (has_cell (cell_in row at) (cell_of v))) ∙ sym (key_like (at ∷ []) (cell_of v ∷ []) row refl)
+
+null_one : (vs : List Val) → is_one_of vs (cell_of val.Null) ≡ false
+null_one [] = refl
+null_one (val.Null ∷ vs) = null_one vs
+null_one (val.Int n ∷ vs) = null_one vs
+null_one (val.Text t ∷ vs) = null_one vs
+null_one (val.Bool b ∷ vs) = null_one vs
+
+-- what is not marked is none of the values
+unmarked : (rows : List Row) (at : ℕ) (vs : List Val) (marks : List Bool) (k : ℕ) → MarksAll rows (at ∷ []) vs marks → get_or marks k false ≡ false
+    → is_one_of vs (cell_in (get_or rows k []) at) ≡ false
+unmarked rows at vs marks k all out =
+    ⊎_elim
+    (λ near. any_same (λ v. is_true (equal (cell_in (get_or rows k []) at) (cell_of v))) (λ v. has_key (at ∷ []) (cell_of v ∷ []) (get_or rows k [])) vs
+    (row_key (get_or rows k []) at) ∙ all.none k near out)
+    (λ far. ap (λ row. is_one_of vs (cell_in row at)) (get_or_past rows k [] far) ∙ null_one vs)
+    (cases_lt k (length rows))
+
+-- places of rows that are not marked may be left out
+pub marked_at : (columns : List Column) (rows lent : List Row) (js : JoinTrees) (alias name : List ℕ) (p : PredTree) (vs : List Val)
+    (at : ℕ) (own : List ℕ) (marks : List Bool) (ps places : List ℕ)
+    → lent ≡ rows → AsksOneOf p alias name vs → position (λ c. bytes_eq c.name name) columns ≡ Some at → is_joined js alias ≡ false
+    → own ≡ at ∷ [] → MarksAll rows own vs marks → places ≡ filter (λ k. get_or marks k false) ps
+    → KeepsSame js alias (tree.filter p) (map (λ q. get_or (map (named_row columns) lent) q []) places) (map (λ q. get_or (map (named_row columns) lent) q []) ps)
+marked_at columns rows lent js alias name p vs at own marks ps places same asked first alone over all chosen =
+    left_at columns rows lent js alias name p (is_one_of vs) at (λ k. get_or marks k false) ps places same asked.asks first alone
+    (λ k out. unmarked rows at vs marks k (subst (λ cs. MarksAll rows cs vs marks) over all) out) chosen
+
+-- ---- a pattern
+
+-- places at whose rows a column is not like the pattern that a condition asks it to be like may be left out
+pub likened_at : (columns : List Column) (rows lent : List Row) (js : JoinTrees) (alias name : List ℕ) (p : PredTree) (m : List ℕ × Bool)
+    (at : ℕ) (ps places : List ℕ)
+    → lent ≡ rows → AsksLike p alias name m → position (λ c. bytes_eq c.name name) columns ≡ Some at → is_joined js alias ≡ false
+    → places ≡ filter (λ k. is_like m (cell_in (get_or rows k []) at)) ps
+    → KeepsSame js alias (tree.filter p) (map (λ q. get_or (map (named_row columns) lent) q []) places) (map (λ q. get_or (map (named_row columns) lent) q []) ps)
+likened_at columns rows lent js alias name p m at ps places same asked first alone chosen =
+    left_at columns rows lent js alias name p (is_like m) at (λ k. is_like m (cell_in (get_or rows k []) at)) ps places same asked.asks first alone
+    (λ k out. out) chosen
 
 -- what a scan finds at its places it finds at others of which WHERE keeps the same
 still_finds : (js : JoinTrees) (scope : Scope) (alias : List ℕ) (parts : Parts) (source : Source) (looked : Looked) (positions : Positions) → Finds js scope alias parts source looked

@@ -1,2 +1,4 @@
 pub mod Ones
 pub mod Chosen
+pub mod Likes
+pub mod Marks

@@ -1,5 +1,5 @@
 -- The constants of which a condition asks a column to be one (PostgreSQL, IN, and OR of equations).
-use Rattle.std.specs.Prelude.{◌≡◌, List, map, Bool, true, ℕ}
+use Rattle.std.specs.Prelude.{◌≡◌, List, Bool, true, ℕ}
 use Rattle.std.specs.List.{list_any}
 use Rattle.hq_base.specs.Cells.{CellTree, cell_of}
 use Rattle.hq_base.specs.declared.value.Val.{Val}

@@ -1,10 +1,12 @@
 -- Places without which WHERE keeps what it keeps with them.
-use Rattle.std.specs.Prelude.{◌≡◌, ℕ, List, [], ◌∷◌, map, Bool, Option, Some, None}
+use Rattle.std.specs.Prelude.{◌≡◌, ◌<◌, ℕ, List, [], ◌∷◌, length, map, Bool, false, Option, Some, None, slice_index_or}
+use Rattle.std.specs.List.{list_any}
 use Rattle.std.specs.Global.{Vec}
-use Rattle.hq_base.specs.Cells.{CellTree}
+use Rattle.hq_base.specs.Cells.{CellTree, cell_of}
 use Rattle.hq_base.specs.declared.value.Val.{Val}
 use Rattle.hq_load_index.specs.Grids.{rows_in}
 use Rattle.hq_load_index.specs.Indexes.{IsOver, columns_of, rows_with}
+use Rattle.hq_load_index.specs.Keys.{has_key}
 use Rattle.hq_sql_tree.specs.Meaning.{NamedRow, Scope as Names, World, kept}
 use Rattle.hq_sql_tree.specs.Tree.{FilterTree, JoinTrees}
 use Rattle.hq_sql_access.specs.Sources.{has_items}
@@ -27,6 +29,11 @@ pub record AreConstants (vs : List Val) (s : Constants) : Type 0 where
 -- whether a cell is one of the constants, as a look-up tells it
 abbrev pub has_constant : Constants → CellTree → Bool
 has_constant s c = has_items (rows_with (columns_of s.index) (c ∷ []) (rows_in s.grid))
+
+-- rows that are not marked have none of these values in columns
+pub record MarksAll (rows : List (List Val)) (columns : List ℕ) (vs : List Val) (marks : List Bool) : Type 0 where
+  pub count : length marks ≡ length rows
+  pub none : (t : ℕ) → t < length rows → slice_index_or marks t false ≡ false → list_any (λ v. has_key columns (cell_of v ∷ []) (slice_index_or rows t [])) vs ≡ false
 
 -- the places at which a scan looks
 abbrev pub places_looked : Looked → Positions

@@ -6,6 +6,7 @@ ghost use Rattle.hq_sql_tree.specs.Tree.{all_of, any_of, preds_of, test as teste
 ghost use Rattle.hq_sql_tree.specs.View.{expr_view, pred_view};
 ghost use Rattle.hq_sql_constants.specs.Listed.{AsksOneOf, IsOfOne};
 
+use crate::patterns::is_long;
 use hq_base::{Memory, Txt, Val};
 use hq_model::{Op, Test};
 use hq_sql_access::equations::is_column;
@@ -120,8 +121,8 @@ fn of_any(
     Ok(Some(values))
 }
 
-// The name of the column that a test is of.
-fn tested_name<'d>(pred: &'d Pred, alias: &Txt) -> Option<&'d Txt> {
+/// The name of the column that a test is of.
+pub(crate) fn tested_name<'d>(pred: &'d Pred, alias: &Txt) -> Option<&'d Txt> {
     let Pred::Test { value, .. } = pred else {
         return None;
     };
@@ -195,10 +196,11 @@ fn of_one<'d>(alloc: Global, pred: &'d Pred, alias: &Txt) -> Result<Option<Liste
 // Fewer constants are not worth to be looked at before WHERE is tried.
 const FEW: usize = 8;
 
-/// Whether a condition has so many operands or conditions.
+/// Whether a condition has so many operands or conditions, or a long pattern.
 pub(crate) fn is_many(pred: &Pred) -> bool {
     match pred {
-        Pred::Test { operands, .. } => operands.len() >= FEW,
+        Pred::Test { test, operands, .. } => operands.len() >= FEW
+            || is_long(*test, operands.as_slice()),
         Pred::Or(preds) => preds.len() >= FEW,
         Pred::True | Pred::False | Pred::Not(_) | Pred::And(_) | Pred::Exists(_) => false,
     }

@@ -1,10 +1,11 @@
 //! The places of the rows that have one of many constants in a column.
-ghost use Rattle.std.specs.Prelude.{◌≡◌, ◌<◌, ◌^◌, ◌++◌, [], ◌∷◌, filter, length, map, IfOk, OnOk, slice_index_or};
+ghost use Rattle.std.specs.Prelude.{◌≡◌, ◌<◌, ◌^◌, ◌++◌, ◌==◌, ℕ, [], ◌∷◌, false, true, filter, length, map, IfOk, IfSome, OnOk, slice_index_or};
+ghost use Rattle.std.specs.List.{list_any};
 ghost use Rattle.hq_base.specs.Cells.{cell_of};
 ghost use Rattle.hq_load_index.specs.Grids.{rows_in};
-ghost use Rattle.hq_load_index.specs.Indexes.{IsOver};
+ghost use Rattle.hq_load_index.specs.Indexes.{IsOver, columns_of, rows_with};
 ghost use Rattle.hq_load_index.specs.Keys.{cell_in};
-ghost use Rattle.hq_sql_constants.specs.Sifted.{AreConstants, has_constant};
+ghost use Rattle.hq_sql_constants.specs.Sifted.{AreConstants, MarksAll, has_constant};
 ghost use Rattle.hq_sql_scans.specs.Positions.{positions_of};
 
 use hq_base::{Memory, Val};
@@ -65,8 +66,8 @@ fn row_has(constants: &Constants, row: &[Val], column: ColId) -> bool
     }
 }
 
-// The place, in 32 bits.
-fn as_place(position: usize) -> Result<u32, Memory>
+/// The place, in 32 bits.
+pub(crate) fn as_place(position: usize) -> Result<u32, Memory>
     ensures { IfOk result (λ place. place ≡ position) }
 {
     if position > u32::MAX as usize {
@@ -108,6 +109,106 @@ pub(crate) fn places_with(
     for turn in 0..number_of(positions) {
         let position = position_at(positions, turn);
         add_place(rows, position, column, constants, &mut places)?;
+    }
+    Ok(places)
+}
+
+fn is_over(index: &Index, column: ColId) -> bool
+    ensures { result ≡ true → columns_of index.now ≡ column ∷ [] }
+{
+    match index.columns() {
+        [own] => own.at() == column.at(),
+        _ => false,
+    }
+}
+
+/// The index over this one column of a table.
+pub(crate) fn index_over(rows: &Rows, column: ColId) -> Option<&Index>
+    ensures { IfSome result (λ index. (IsOver rows.now index.now) × (columns_of index.now ≡ column ∷ [])) }
+{
+    for index in rows.indexes() {
+        if is_over(index, column) {
+            return Some(index);
+        }
+    }
+    None
+}
+
+// Sets the marks of these rows.
+fn mark_rows(marks: &mut Vec<bool>, found: &[u32])
+    ensures count { length marks.new.items ≡ length marks.old.items }
+    ensures left { (t : ℕ) → t < length marks.old.items → slice_index_or marks.new.items t false ≡ false → slice_index_or marks.old.items t false ≡ false }
+    ensures set { (t : ℕ) → t < length marks.old.items → slice_index_or marks.old.items t false ≡ false → slice_index_or marks.new.items t false ≡ list_any (λ u. u == t) found.now }
+{
+    for row in found {
+        let at = *row as usize;
+        if at < marks.len() {
+            marks[at] = true;
+        }
+    }
+}
+
+// The rows of a table that have a value in the columns of an index.
+fn found_with<'i>(rows: &Rows, index: &'i Index, value: &Val) -> &'i [u32]
+    requires { IsOver rows.now index.now }
+    ensures { result.now ≡ rows_with (columns_of index.now) (cell_of value.now ∷ []) rows.now }
+{
+    let cell = KeyCell::of(value);
+    let found = index.found(rows.grid(), slice::from_ref(&cell));
+    found.rows
+}
+
+/// Of each row of a table, whether it has one of these values in the columns of an index.
+#[tactic(auto, using(crate::proofs::Marks::marks_none, crate::proofs::Marks::marks_end))]
+pub(crate) fn marks_by(
+    alloc: Global,
+    rows: &Rows,
+    index: &Index,
+    values: &[Val],
+) -> Result<Vec<bool>, Memory>
+    requires { IsOver rows.now index.now }
+    ensures { IfOk result (λ marks. MarksAll rows.now (columns_of index.now) values.now marks.items) }
+{
+    let mut marks = Vec::from_elem(alloc, false, rows.len())?;
+    for value in values {
+        let found = found_with(rows, index, value);
+        mark_rows(&mut marks, found);
+    }
+    Ok(marks)
+}
+
+fn is_marked(marks: &[bool], at: usize) -> bool
+    ensures { result ≡ slice_index_or marks.now at false }
+{
+    match marks.get(at) {
+        Some(mark) => *mark,
+        None => false,
+    }
+}
+
+// Adds the place, where its row is marked.
+fn add_marked(marks: &[bool], position: usize, places: &mut Vec<u32>) -> Result<(), Memory>
+    ensures { OnOk result (places.new.items ≡ places.old.items ++ filter (λ p. slice_index_or marks.now p false) (position ∷ [])) }
+{
+    if is_marked(marks, position) {
+        places.push(as_place(position)?)?;
+    }
+    Ok(())
+}
+
+/// Those of the places whose rows are marked.
+#[tactic(auto, using(crate::proofs::Chosen::places_more, crate::proofs::Chosen::places_end))]
+pub(crate) fn places_marked(
+    alloc: Global,
+    positions: Positions<'_>,
+    marks: &[bool],
+) -> Result<Vec<u32>, Memory>
+    ensures { IfOk result (λ places. places.items ≡ filter (λ p. slice_index_or marks.now p false) (positions_of positions.entry)) }
+{
+    let mut places = Vec::new(alloc);
+    for turn in 0..number_of(positions) {
+        let position = position_at(positions, turn);
+        add_marked(marks, position, &mut places)?;
     }
     Ok(places)
 }

@@ -1,6 +1,9 @@
 //! Scans without the places at whose rows WHERE is not true.
-ghost use Rattle.std.specs.Prelude.{◌≡◌, map, IfOk, IfSome, false};
+ghost use Rattle.std.specs.Prelude.{◌≡◌, ◌∷◌, [], map, IfOk, IfSome, Some, false, bytes_eq};
+ghost use Rattle.std.specs.List.{position};
+ghost use Rattle.hq_load_index.specs.Indexes.{IsOver, columns_of};
 ghost use Rattle.hq_sql_constants.specs.Listed.{AsksOneOf};
+ghost use Rattle.hq_sql_constants.specs.Patterns.{AsksLike};
 ghost use Rattle.hq_sql_constants.specs.Sifted.{IsLeft, KeepsSame, places_looked, with_places};
 ghost use Rattle.hq_sql_access.specs.Equations.{is_joined};
 ghost use Rattle.hq_sql_access.specs.Lent.{rows_lent};
@@ -11,8 +14,10 @@ ghost use Rattle.hq_sql_tree.specs.Tree.{filter as filtered, joins_of};
 ghost use Rattle.hq_sql_tree.specs.View.{filter_view, join_view, pred_view};
 
 use crate::listed::{Listed, is_many, listed_in};
-use crate::marked::{constants_of, places_with};
+use crate::marked::{constants_of, index_over, marks_by, places_marked, places_with};
+use crate::patterns::{Likened, likened_in, places_like};
 use hq_base::{Memory, Txt};
+use hq_load_index::Index;
 use hq_load_tables::Rows;
 use hq_model::ColId;
 use hq_sql_access::equations::{first_named, is_joined};
@@ -29,8 +34,8 @@ const FEW: usize = 64;
 // So many constants are too many to be looked up.
 const MOST: usize = 1 << 24;
 
-// Those of the places whose rows have one of the constants that a condition asks for.
-fn sifted_by<'d>(
+// Those of the places whose rows have one of the constants that a condition asks for, tried one by one.
+fn sifted_each<'d>(
     alloc: Global,
     stored: &'d Stored<'d>,
     rows: &Rows,
@@ -59,7 +64,117 @@ fn sifted_by<'d>(
     Ok(Some(places))
 }
 
-// The same of a condition, where it asks a column to be one of many constants.
+// The same, where an index over the column finds the rows.
+fn sifted_by_index<'d>(
+    alloc: Global,
+    stored: &'d Stored<'d>,
+    rows: &Rows,
+    index: &Index,
+    column: ColId,
+    alias: &Txt,
+    joins: &[Join],
+    pred: &Pred,
+    asked: &Listed<'_>,
+    positions: Positions<'_>,
+) -> Result<Vec<u32>, Memory>
+    requires joined { is_joined (joins_of (map join_view joins.now)) alias.now ≡ false }
+    requires rows { rows_lent stored.now.rows ≡ rows.now }
+    requires asks { AsksOneOf (pred_view pred.now) alias.now asked.now.name.now asked.now.values.items }
+    requires first { position (λ c. bytes_eq c.name asked.now.name.now) stored.now.table.now.columns ≡ Some column }
+    requires over { IsOver rows.now index.now }
+    requires columns { columns_of index.now ≡ column ∷ [] }
+    ensures { IfOk result
+        (λ places. KeepsSame (joins_of (map join_view joins.now)) alias.now (filtered (pred_view pred.now))
+        (map (row_in (source.Stored stored.entry)) places.items) (rows_at (source.Stored stored.entry) positions.entry)) }
+{
+    let values = asked.values.as_slice();
+    let marks = marks_by(alloc, rows, index, values)?;
+    let marked = marks.as_slice();
+    places_marked(alloc, positions, marked)
+}
+
+// The same by an index, where there is one over the column alone.
+fn sifted_by<'d>(
+    alloc: Global,
+    stored: &'d Stored<'d>,
+    rows: &Rows,
+    alias: &Txt,
+    joins: &[Join],
+    pred: &Pred,
+    asked: Listed<'_>,
+    positions: Positions<'_>,
+) -> Result<Option<Vec<u32>>, Memory>
+    requires joined { is_joined (joins_of (map join_view joins.now)) alias.now ≡ false }
+    requires rows { rows_lent stored.now.rows ≡ rows.now }
+    requires asks { AsksOneOf (pred_view pred.now) alias.now asked.name.now asked.values.items }
+    ensures { IfOk result
+        (λ found. IfSome found
+        (λ places. KeepsSame (joins_of (map join_view joins.now)) alias.now (filtered (pred_view pred.now))
+        (map (row_in (source.Stored stored.entry)) places.items) (rows_at (source.Stored stored.entry) positions.entry))) }
+{
+    let Some(at) = first_named(stored.table.columns.as_slice(), asked.name) else {
+        return Ok(None);
+    };
+    let column = ColId::new(at);
+    if let Some(index) = index_over(rows, column) {
+        let places = sifted_by_index(
+            alloc, stored, rows, index, column, alias, joins, pred, &asked, positions,
+        )?;
+        return Ok(Some(places));
+    }
+    sifted_each(alloc, stored, rows, alias, joins, pred, asked, positions)
+}
+
+// Those of the places whose rows are like the pattern that a condition asks for.
+fn sifted_like<'d>(
+    alloc: Global,
+    stored: &'d Stored<'d>,
+    rows: &Rows,
+    alias: &Txt,
+    joins: &[Join],
+    pred: &Pred,
+    asked: Likened<'_>,
+    positions: Positions<'_>,
+) -> Result<Option<Vec<u32>>, Memory>
+    requires joined { is_joined (joins_of (map join_view joins.now)) alias.now ≡ false }
+    requires rows { rows_lent stored.now.rows ≡ rows.now }
+    requires asks { AsksLike (pred_view pred.now) alias.now asked.name.now asked.matcher }
+    ensures { IfOk result
+        (λ found. IfSome found
+        (λ places. KeepsSame (joins_of (map join_view joins.now)) alias.now (filtered (pred_view pred.now))
+        (map (row_in (source.Stored stored.entry)) places.items) (rows_at (source.Stored stored.entry) positions.entry))) }
+{
+    let Some(at) = first_named(stored.table.columns.as_slice(), asked.name) else {
+        return Ok(None);
+    };
+    let places = places_like(alloc, rows, positions, ColId::new(at), &asked.matcher)?;
+    Ok(Some(places))
+}
+
+// The same of a condition, where it asks a column to be like a long pattern.
+fn sifted_by_pattern<'d>(
+    alloc: Global,
+    stored: &'d Stored<'d>,
+    rows: &Rows,
+    alias: &Txt,
+    joins: &[Join],
+    pred: &Pred,
+    positions: Positions<'_>,
+) -> Result<Option<Vec<u32>>, Memory>
+    requires joined { is_joined (joins_of (map join_view joins.now)) alias.now ≡ false }
+    requires rows { rows_lent stored.now.rows ≡ rows.now }
+    ensures { IfOk result
+        (λ found. IfSome found
+        (λ places. KeepsSame (joins_of (map join_view joins.now)) alias.now (filtered (pred_view pred.now))
+        (map (row_in (source.Stored stored.entry)) places.items) (rows_at (source.Stored stored.entry) positions.entry))) }
+{
+    match likened_in(alloc, pred, alias)? {
+        Some(asked) => sifted_like(alloc, stored, rows, alias, joins, pred, asked, positions),
+        None => Ok(None),
+    }
+}
+
+// The same of a condition, where it asks a column to be one of many constants, or like a long pattern.
 fn sifted_rows<'d>(
     alloc: Global,
     stored: &'d Stored<'d>,
@@ -79,7 +194,7 @@ fn sifted_rows<'d>(
     };
     match listed_in(alloc, pred, alias)? {
         Some(asked) => sifted_by(alloc, stored, rows, alias, joins, pred, asked, positions),
-        None => Ok(None),
+        None => sifted_by_pattern(alloc, stored, rows, alias, joins, pred, positions),
     }
 }
 

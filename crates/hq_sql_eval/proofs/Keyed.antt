@@ -1,5 +1,5 @@
 -- The keys of the rows that an EXISTS keeps.
-use Rattle.std.proofs.Common.{◌≡◌, ℕ, List, [], ◌∷◌, ◌++◌, map, filter, flat_map, length, Bool, true, false, ◌&&◌, ◌||◌, cond, None, refl, sym, ap, ap₂, ◌∙◌}
+use Rattle.std.proofs.Common.{◌≡◌, ℕ, List, [], ◌∷◌, map, filter, flat_map, length, Bool, true, false, ◌&&◌, ◌||◌, cond, None, refl, sym, ap, ap₂, ◌∙◌}
 use Rattle.std.specs.Borrow.{Bor}
 use Rattle.std.specs.List.{list_any}
 use Rattle.std.proofs.lemmas.List.{length-map}

@@ -1,5 +1,5 @@
 -- What is learned of a condition.
-use Rattle.std.proofs.Common.{◌≡◌, ℕ, zero, suc, ◌+◌, ◌<◌, ◌≤◌, List, [], ◌∷◌, ◌++◌, map, filter, take, length, get_or, replicate, Bool, true, false, ◌&&◌, None, refl, sym, ap, ap₂, subst, ◌∙◌, add-one, arith}
+use Rattle.std.proofs.Common.{◌≡◌, ℕ, zero, suc, ◌+◌, ◌<◌, ◌≤◌, List, [], ◌∷◌, ◌++◌, map, take, length, get_or, replicate, Bool, true, false, ◌&&◌, None, refl, sym, ap, ap₂, subst, ◌∙◌, add-one, arith}
 use Rattle.std.proofs.Math.Seq.{take-suc}
 use Rattle.std.proofs.lemmas.List.{map-append, take_all}
 use Rattle.std.specs.Borrow.{Bor}
@@ -18,12 +18,14 @@ use Rattle.hq_sql_access.specs.Sources.{alias_in, made_rows, rows_given}
 use Rattle.hq_sql_access.specs.declared.pinned.Known.{Known}
 use Rattle.hq_sql_select.proofs.Evaluated.{exists_is}
 
-at_map : {A B : Type 0} (f : A → B) (xs : List A) (i : ℕ) (d : A) (e : B) → i < length xs → get_or (map f xs) i e ≡ f (get_or xs i d)
+-- an element of mapped ones is mapped
+pub at_map : {A B : Type 0} (f : A → B) (xs : List A) (i : ℕ) (d : A) (e : B) → i < length xs → get_or (map f xs) i e ≡ f (get_or xs i d)
 at_map f [] i d e h = absurd (omega arith)
 at_map f (x ∷ xs) zero d e h = refl
 at_map f (x ∷ xs) (suc i) d e h = at_map f xs i d e (omega arith)
 
-length_map : {A B : Type 0} (f : A → B) (xs : List A) → length (map f xs) ≡ length xs
+-- mapped ones are as many
+pub length_map : {A B : Type 0} (f : A → B) (xs : List A) → length (map f xs) ≡ length xs
 length_map f [] = refl
 length_map f (x ∷ xs) = ap suc (length_map f xs)
 
@@ -54,7 +56,8 @@ of_table w from schema name alias given rows a f k e r b h made =
 
 -- ---- truths, row by row
 
-narrowed_more : (bs ts : List Bool) (i : ℕ) → i < length bs → i < length ts
+-- one more of each
+pub narrowed_more : (bs ts : List Bool) (i : ℕ) → i < length bs → i < length ts
     → narrowed (take i bs) (take i ts) ++ ((get_or bs i false && get_or ts i false) ∷ []) ≡ narrowed (take (suc i) bs) (take (suc i) ts)
 narrowed_more [] ts i h k = absurd (omega arith)
 narrowed_more (b ∷ bs) [] i h k = absurd (omega arith)

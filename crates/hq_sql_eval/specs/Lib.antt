@@ -1,2 +1,3 @@
 pub mod Filtered
 pub mod Narrowed
+pub mod Plain

@@ -11,11 +11,13 @@ ghost use Rattle.hq_sql_tree.specs.View.{filter_view, from_view, join_view, pred
 ghost use Rattle.hq_sql_access.specs.KeySets.{IsKeySet, keeps_key};
 ghost use Rattle.hq_sql_access.specs.Known.{IsKnown, IsRight};
 ghost use Rattle.hq_sql_access.specs.Lent.{rows_lent};
+ghost use Rattle.hq_sql_access.specs.declared.scope.Source.TheVariants as source;
 ghost use Rattle.hq_sql_eval.specs.Filtered.{Filters};
 ghost use Rattle.hq_sql_eval.specs.Narrowed.{narrowed, keeps_one};
 ghost use Rattle.hq_sql_access.specs.Sources.{alias_in, rows_given};
 ghost use Rattle.hq_sql_access.specs.View.{names_of, source_view, world_of};
 
+use crate::plain::{narrowed_by_tests, tests_of};
 use hq_base::{Memory, Txt};
 use hq_load_index::Index;
 use hq_load_tables::Rows;
@@ -237,6 +239,63 @@ fn narrowed_keyed<'s, 'd>(
     Ok(Some(truths))
 }
 
+// The same of a condition over the rows of a table that asks for one of some tests of columns; None of another one.
+fn narrowed_stored<'d>(
+    alloc: Global,
+    before: &[bool],
+    stored: &'d Stored<'d>,
+    rows: &Rows,
+    alias: &Txt,
+    pred: &'d Pred,
+    world: &Pinned<'d>,
+) -> Result<Option<Vec<bool>>, Memory>
+    requires lent { rows_lent stored.now.rows ≡ rows.now }
+    requires long { length before.now ≡ length rows.now }
+    ensures { IfOk result
+        (λ found. IfSome found
+        (λ truths. truths.items
+        ≡ narrowed before.now
+        (map (λ row. kept_one (pred_view pred.now) (world_of world.now) (with_alias nothing alias.now row))
+        (source_view (source.Stored stored.entry))))) }
+{
+    let columns = stored.table.columns.as_slice();
+    let Some(tests) = tests_of(alloc, pred, columns, alias)? else {
+        return Ok(None);
+    };
+    let list = tests.as_slice();
+    let truths = narrowed_by_tests(alloc, before, rows, list)?;
+    Ok(Some(truths))
+}
+
+// The same over any rows; None over those that are no table's.
+fn narrowed_tested<'s, 'd>(
+    alloc: Global,
+    before: &[bool],
+    source: Source<'s, 'd>,
+    alias: &'d Txt,
+    pred: &'d Pred,
+    world: &Pinned<'d>,
+) -> Result<Option<Vec<bool>>, Memory>
+    requires { length before.now ≡ length (source_view source) }
+    ensures { IfOk result
+        (λ found. IfSome found
+        (λ truths. truths.items
+        ≡ narrowed before.now
+        (map (λ row. kept_one (pred_view pred.now) (world_of world.now) (with_alias nothing alias.now row))
+        (source_view source.entry)))) }
+{
+    let Source::Stored(stored) = source else {
+        return Ok(None);
+    };
+    let Some(rows) = stored.rows else {
+        return Ok(None);
+    };
+    if before.len() != rows.len() {
+        return Ok(None);
+    }
+    narrowed_stored(alloc, before, stored, rows, alias, pred, world)
+}
+
 // The same of a condition of which no keys are known.
 fn narrowed_plainly<'s, 'd>(
     alloc: Global,
@@ -257,6 +316,9 @@ fn narrowed_plainly<'s, 'd>(
         if let Some(truths) = narrowed_by(alloc, before, source, alias, select, world)? {
             return Ok(truths);
         }
+    }
+    if let Some(truths) = narrowed_tested(alloc, before, source, alias, pred, world)? {
+        return Ok(truths);
     }
     narrowed_each(alloc, before, source, alias, pred, world)
 }

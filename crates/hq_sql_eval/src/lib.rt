@@ -3,6 +3,7 @@
 
 mod learn;
 mod matchers;
+mod plain;
 mod remember;
 mod statement;
 

@@ -1,5 +1,5 @@
 use Rattle.std.proofs.Common.{rules, ◌≡◌, ◌∷◌, [], map, sym, ap, subst, arith}
-use Rattle.hq_sql_conjuncts.specs.Conjuncts.{all_kept, lent_views, lent_weight}
+use Rattle.hq_sql_conjuncts.specs.Conjuncts.{all_kept, lent_views}
 use Rattle.hq_sql_conjuncts.specs.Split.{IsSplit, kept_one}
 use Rattle.hq_sql_conjuncts.specs.Weight.{pred_weight}
 use Rattle.hq_sql_tree.specs.declared.select.From.{the_lemmas as from_lemmas}

@@ -1,4 +1,4 @@
-use Rattle.std.proofs.Common.{rules, ◌≡◌, ◌∙◌, [], None, Bool, map, sym, ap, ap₂}
+use Rattle.std.proofs.Common.{rules, ◌≡◌, ◌∙◌, [], None, Bool, map, sym, ap}
 use Rattle.hq_sql_tree.specs.declared.select.From.{the_lemmas as from_lemmas}
 use Rattle.hq_sql_tree.specs.declared.select.Select.{the_lemmas as select_lemmas}
 use Rattle.hq_sql_tree.specs.Meaning.{NamedRow, has_rows, nothing, rows_of, with_alias}

@@ -1,4 +1,4 @@
-use Rattle.std.proofs.Common.{rules, ◌≡◌, ◌∙◌, ◌<◌, map, length, ap, arith}
+use Rattle.std.proofs.Common.{rules, ◌∙◌, ◌<◌, length, ap, arith}
 use Rattle.std.proofs.lemmas.List.{length-map}
 use Rattle.hq_sql_access.specs.View.{source_view, world_of}
 use Rattle.hq_sql_eval.proofs.Learned.{truths_step, truths_none}

@@ -8,7 +8,7 @@ use Rattle.hq_sql_tree.specs.View.{join_view, pred_view}
 use Rattle.hq_sql_scans.specs.Positions.{positions_of}
 use Rattle.hq_sql_constants.specs.Sifted.{has_constant}
 use Rattle.hq_sql_constants.proofs.Chosen.{sifted_at}
-use Rattle.hq_sql_constants.proofs.sifted.sifted_by.Goals as goal
+use Rattle.hq_sql_constants.proofs.sifted.sifted_each.Goals as goal
 
 pub returns : goal.returns
 returns c =
