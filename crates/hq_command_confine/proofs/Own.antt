@@ -1,12 +1,12 @@
 -- What `sql` writes is said yes to.
-use Rattle.std.proofs.Common.{◌≡◌, ◌∙◌, ◌⊎◌, inl, inr, ℕ, ◌+◌, ◌-◌, ◌≤◌, List, [], ◌∷◌, ◌++◌, length, take, get_or, Bool, true, false, cond, Option, Some, None, Result, Ok, Err, refl, sym, ap, subst, arith}
+use Rattle.std.proofs.Common.{◌≡◌, ◌∙◌, ◌⊎◌, inl, inr, ℕ, ◌+◌, ◌-◌, ◌≤◌, List, [], ◌∷◌, ◌++◌, length, take, get_or, Bool, true, false, cond, Some, None, Result, Ok, Err, refl, sym, ap, subst, arith}
 use Rattle.std.specs.Prelude.{codes, unwrap_or, nat_lt, ◌==◌}
 use Rattle.std.proofs.lemmas.List.{length-append, get_or_at, take_at}
 use Rattle.hq_request_tree.specs.Request.{AskTree}
 use Rattle.hq_base.specs.Due.{◌>>=◌}
 use Rattle.hq_translation.specs.Asked.{asked_statement}
 use Rattle.hq_confine_rules.specs.Faults.{faults, worst}
-use Rattle.hq_engine.specs.Asking.{statement_text, text_for}
+use Rattle.hq_engine.specs.Asking.{text_for}
 use Rattle.hq_engine.specs.Statements.{HasStatement, IsStatement}
 use Rattle.hq_load.specs.Loading.{Described}
 use Rattle.hq_io.specs.declared.files.File.{File}
@@ -19,22 +19,21 @@ use Rattle.hq_session.specs.declared.header.Header.{Header}
 use Rattle.hq_sql_text.specs.Readable.{Spells}
 use Rattle.hq_sql_tree.specs.Spelling.{select_text}
 use Rattle.hq_sql_tree.specs.Tree.{SelectTree}
-use Rattle.hq_sql_tree.specs.WellFormed.{is_statement}
 use Rattle.hq_model.specs.Grants.{grants_of}
 use Rattle.hq_model.specs.Meta.{MetaTree}
 use Rattle.hq_model.specs.Schema.{schema_of}
 use Rattle.hq_model.specs.declared.session.Session.{Session}
 use Rattle.hq_model.specs.declared.table.Table.{Table}
 use Rattle.hq_command.specs.Ending.{Output}
-use Rattle.hq_command.specs.Output.{line_text, stated_output, statement_output, within_limit}
+use Rattle.hq_command.specs.Output.{line_text, stated_output, statement_output}
 use Rattle.hq_command.specs.Refusals.{description_of}
-use Rattle.hq_command.specs.Stating.{HasStatementFor, HasStatementOver}
+use Rattle.hq_command.specs.Stating.{HasStatementFor}
 use Rattle.hq_command.specs.declared.done.Done.{Done}
 use Rattle.hq_command.specs.declared.done.Done.TheVariants.{Answered, Faulty}
 use Rattle.hq_command.specs.declared.reply.TheConstants.{INPUT_LIMIT}
 use Rattle.hq_command.specs.declared.refusal.Refusal.{Refusal}
 use Rattle.hq_command.specs.declared.refusal.Refusal.TheVariants as refusal
-use Rattle.hq_command_confine.specs.Confining.{IsConfineDue, IsDueBehind, IsDueFor, IsSaid, not_typed, says, tree_output, verdict_output, without_line_end, yes}
+use Rattle.hq_command_confine.specs.Confining.{IsDueBehind, IsDueFor, IsSaid, not_typed, says, tree_output, verdict_output, without_line_end, yes}
 use Rattle.hq_command_confine.specs.Laws.{OneLine, OwnConfined}
 
 -- ---- one line

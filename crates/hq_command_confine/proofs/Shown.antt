@@ -1,5 +1,5 @@
 -- What is shown where the answer is yes, by its parts.
-use Rattle.std.proofs.Common.{◌≡◌, ◌∙◌, ℕ, List, Option, Some, None, IfSome, IfOk, Result, Ok, Err, refl, sym, ap, subst}
+use Rattle.std.proofs.Common.{◌≡◌, ◌∙◌, ℕ, List, Option, Some, None, IfSome, IfOk, Result, Ok, Err, sym, ap, subst}
 use Rattle.hq_base.specs.declared.memory.Memory.{Memory}
 use Rattle.hq_load.specs.Loading.{Described, description_due, refused_as}
 use Rattle.hq_io.specs.Streams.{ReadsAll}

@@ -32,8 +32,11 @@ fn serve_instance<X: Disk, D: Door, K: Sink>(
     out: &mut K,
 ) -> OnDisk<X, Result<(), ServeRefusal>>
     requires { ⟦<SqlDb<PagedTables<X>> as Database>⟧.tables instance.db ≡ instance.engine.catalog.tables }
-    ensures opens { OpensOver (seen_door (D.links door.old) (D.accepted door.old) (D.faults door.old)) (seen_door (D.links door.new) (D.accepted door.new) (D.faults door.new)) (K.written out.old) (K.written out.new)
-        (ServesFrom (record { left = D.Link.left; written = D.Link.written; read_faults = D.Link.read_faults; write_faults = D.Link.write_faults }) rule.now connections (seen_door (D.links door.old) (D.accepted door.old) (D.faults door.old)) (seen_door (D.links door.new) (D.accepted door.new) (D.faults door.new)) (K.written out.old) (K.written out.new)
+    ensures opens { let before = seen_door (D.links door.old) (D.accepted door.old) (D.faults door.old) in
+        let after = seen_door (D.links door.new) (D.accepted door.new) (D.faults door.new) in
+        OpensOver before after (K.written out.old) (K.written out.new)
+        (ServesFrom (record { left = D.Link.left; written = D.Link.written; read_faults = D.Link.read_faults; write_faults = D.Link.write_faults })
+        rule.now connections before after (K.written out.old) (K.written out.new)
         (⟦<SqlDb<PagedTables<X>> as Database>⟧.faults instance.db) (seen_disk (X.held result.disk) (X.faults result.disk)) instance.engine.catalog.tables (meta_view instance.engine.meta)
         (⟦<SqlDb<PagedTables<X>> as Database>⟧.database instance.db)) result.answer }
     ensures door { IsErrOf result.answer ServeRefusal.DoorFailed → Rose (D.faults door.old) (D.faults door.new) }
@@ -82,7 +85,8 @@ pub fn serve_on_disk<F: Files, X: Disk, D: Door, K: Sink>(
     out: &mut K,
 ) -> OnDisk<X, Result<Done, Refusal>>
     ensures ends { PagedServeEnds (record { left = D.Link.left; written = D.Link.written; read_faults = D.Link.read_faults; write_faults = D.Link.write_faults })
-        rule.now connections (seen_door (D.links door.old) (D.accepted door.old) (D.faults door.old)) (seen_door (D.links door.new) (D.accepted door.new) (D.faults door.new)) (K.written out.old) (K.written out.new)
+        rule.now connections (seen_door (D.links door.old) (D.accepted door.old) (D.faults door.old)) (seen_door (D.links door.new) (D.accepted door.new) (D.faults door.new))
+        (K.written out.old) (K.written out.new)
         (seen_disk (X.held disk) (X.faults disk)) (seen_disk (X.held result.disk) (X.faults result.disk)) (F.folder files.old) dir.now result.answer }
     ensures words { IsErrOf result.answer Refusal.BadWords → ⊥ }
     ensures read { IsErrOf result.answer Refusal.ReadFailed →

@@ -13,7 +13,6 @@ use Rattle.hq_model.specs.declared.table.Table.{Table}
 use Rattle.hq_command.specs.Ending.{Answer}
 use Rattle.hq_command.specs.Refusals.{contents_due, of_serving}
 use Rattle.hq_command.specs.declared.done.Done.TheVariants.{Answered, Faulty}
-use Rattle.hq_command.specs.declared.refusal.Refusal.{Refusal}
 use Rattle.hq_command.specs.declared.refusal.Refusal.TheVariants as refusal
 
 -- what a door tells: its links, how many it accepted, and how often it has failed

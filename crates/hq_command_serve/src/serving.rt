@@ -25,9 +25,11 @@ fn serve_loaded<D: Door, K: Sink>(
     door: &mut D,
     out: &mut K,
 ) -> Result<(), ServeRefusal>
-    ensures opens { OpensOver (seen_door (D.links door.old) (D.accepted door.old) (D.faults door.old)) (seen_door (D.links door.new) (D.accepted door.new) (D.faults door.new)) (K.written out.old) (K.written out.new)
+    ensures opens { let before = seen_door (D.links door.old) (D.accepted door.old) (D.faults door.old) in
+        let after = seen_door (D.links door.new) (D.accepted door.new) (D.faults door.new) in
+        OpensOver before after (K.written out.old) (K.written out.new)
         (ServesOver (record { left = D.Link.left; written = D.Link.written; read_faults = D.Link.read_faults; write_faults = D.Link.write_faults })
-        rule.now connections (seen_door (D.links door.old) (D.accepted door.old) (D.faults door.old)) (seen_door (D.links door.new) (D.accepted door.new) (D.faults door.new)) (K.written out.old) (K.written out.new)
+        rule.now connections before after (K.written out.old) (K.written out.new)
         (contents loaded.catalog.tables (meta_view loaded.meta) loaded.rows)) result }
     ensures door { IsErrOf result ServeRefusal.DoorFailed → Rose (D.faults door.old) (D.faults door.new) }
     ensures write { IsErrOf result ServeRefusal.WriteFailed → Rose (K.faults out.old) (K.faults out.new) }

@@ -1,5 +1,5 @@
 -- From databases that agree to due replies that are the same.
-use Rattle.std.proofs.Common.{◌≡◌, ◌∙◌, ℕ, List, [], ◌∷◌, Bool, true, false, cond, filter, map, refl, sym, ap, subst}
+use Rattle.std.proofs.Common.{◌≡◌, ◌∙◌, ℕ, List, [], ◌∷◌, Bool, true, false, cond, refl, sym, ap, subst}
 use Rattle.hq_model.specs.Catalog.{is_catalog}
 use Rattle.hq_model.specs.Database.{Row}
 use Rattle.hq_model.specs.Fits.{fits}

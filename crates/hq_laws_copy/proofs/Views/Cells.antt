@@ -12,7 +12,6 @@ use Rattle.hq_base.specs.declared.value.Val.TheVariants as val
 use Rattle.hq_base.proofs.Lists.{any_map_of}
 use Rattle.hq_model.specs.Logic.{is_true, equal, truth_of}
 use Rattle.hq_model.specs.Meta.{MetaTree}
-use Rattle.hq_model.specs.Permission.{permission}
 use Rattle.hq_model.specs.Schema.{Schema, table, rel}
 use Rattle.hq_model.specs.Seen.{Sees, row_cell, linked_by}
 use Rattle.hq_model.specs.declared.role.Role.{Role}

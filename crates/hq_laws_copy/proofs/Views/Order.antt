@@ -15,7 +15,7 @@ use Rattle.hq_model.specs.Bexp.{always}
 use Rattle.hq_model.specs.Database.{Row}
 use Rattle.hq_model.specs.Grants.{Grants, grant}
 use Rattle.hq_model.specs.Permission.{Mask, Permission}
-use Rattle.hq_model.specs.Permitted.{columns_cmp, by_key, permitted, mask_of, shown_under, shown}
+use Rattle.hq_model.specs.Permitted.{columns_cmp, by_key, permitted, mask_of, shown_under}
 use Rattle.hq_model.specs.Schema.{Schema, table}
 use Rattle.hq_model.specs.Seen.{all_of, row_cell, table_rows}
 use Rattle.hq_model.specs.Truth.{keeps}

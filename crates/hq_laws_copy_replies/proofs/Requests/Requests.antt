@@ -153,7 +153,8 @@ module _ (R : SchemaTree) (tables : List Table) (m : MetaTree) (session : Sessio
       (λ json. same_step F G (λ text. document_due text >>= whole R tables m session json)
       (λ text. document_due text >>= whole (schema_over n R) ct cm reader_session json) (query_due json) (query_due json) refl
       (λ text. same_step F G (whole R tables m session json) (whole (schema_over n R) ct cm reader_session json) (document_due text) (document_due text) refl
-      (λ d. same_step F G (operation_ask R tables m session json) (operation_ask (schema_over n R) ct cm reader_session json) (valid_due R d) (valid_due (schema_over n R) d) (valid_same d) (operation_alike json))))
+      (λ d. same_step F G (operation_ask R tables m session json) (operation_ask (schema_over n R) ct cm reader_session json)
+      (valid_due R d) (valid_due (schema_over n R) d) (valid_same d) (operation_alike json))))
 
 -- the law, where those of its parts hold
 pub renumbered : (tables : List Table) (m : MetaTree) (session : Session) (d : List (List Row)) (c : Copied) (body : List ℕ)

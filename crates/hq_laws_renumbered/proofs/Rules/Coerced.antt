@@ -1,16 +1,16 @@
 -- Coerced variables are the same in a schema without origins.
-use Rattle.std.proofs.Common.{◌≡◌, ◌∙◌, ℕ, ◌&&◌, List, [], ◌∷◌, map, Bool, true, false, cond, not, Option, Some, None, Result, Ok, Err, option_and_then, option_map, slice_index_or, bytes_eq, filter_map, refl, sym, ap, ap₂}
+use Rattle.std.proofs.Common.{◌≡◌, ◌∙◌, ℕ, List, [], ◌∷◌, map, Bool, Option, Some, None, Result, option_and_then, option_map, slice_index_or, bytes_eq, refl, ap, ap₂}
 use Rattle.std.specs.List.{list_any}
 use Rattle.hq_base.specs.Due.{and_then, mapped}
 use Rattle.hq_base.specs.Json.{JsonTree, null, bool, int, str, arr, obj, ElementTrees, no_element, element, MemberTrees, no_member, member, elements_of, names_of}
 use Rattle.hq_schema.specs.declared.origin.TypeOrigin.{TypeOrigin}
 use Rattle.hq_schema.specs.declared.origin.TypeOrigin.TheVariants as origin
-use Rattle.hq_schema.specs.Look.{type_at, input_field_of, enum_value_of}
+use Rattle.hq_schema.specs.Look.{type_at, input_field_of}
 use Rattle.hq_schema.specs.Schema.{TypeRefTree, base, ArgTree, TypeTree, SchemaTree}
 use Rattle.hq_gql_tree.specs.Documents.{VarDefTree, DocumentTree}
 use Rattle.hq_gql_nodes.specs.Fragments.{fragment_named, graph_of}
 use Rattle.hq_gql_nodes.specs.Known.{element_type, input_at, resolved}
-use Rattle.hq_gql_nodes.specs.Nodes.{NodeTree, variable_node, condition_node, field_node, spread_node, inline_node, directives_node, directive_node, argument_node, value_node, member_node, PartTree, document_parts}
+use Rattle.hq_gql_nodes.specs.Nodes.{NodeTree, value_node, PartTree, document_parts}
 use Rattle.hq_gql_nodes.specs.Reach.{reached}
 use Rattle.hq_request_coerce.specs.Choice.{operation_at}
 use Rattle.hq_request_coerce.specs.Coercion.{enum_value, leaf_by, leaf_value, in_lists, is_lacking, default_member, object_of, inputs_in, inputs_at, coerced, coerced_elements, coerced_members}

@@ -1,8 +1,6 @@
 -- The first rule that a document violates is the same in a schema without origins.
-use Rattle.std.proofs.Common.{◌≡◌, ◌∙◌, ℕ, List, map, Option, None, refl, ap, ap₂}
-use Rattle.std.specs.Option.{option_or}
+use Rattle.std.proofs.Common.{◌≡◌, ◌∙◌, List, map, refl, ap}
 use Rattle.hq_schema.specs.Schema.{SchemaTree}
-use Rattle.hq_gql_tree.specs.declared.fault.Fault.{Fault}
 use Rattle.hq_gql_tree.specs.Documents.{DocumentTree}
 use Rattle.hq_gql_nodes.specs.Fragments.{Places, fragment_named, graph_of}
 use Rattle.hq_gql_nodes.specs.Nodes.{PartTree, document_parts}

@@ -1,5 +1,5 @@
 -- What introspection answers is the same in a schema without origins.
-use Rattle.std.proofs.Common.{◌≡◌, ◌∙◌, ℕ, List, [], ◌∷◌, map, Bool, true, false, Option, Some, None, option_and_then, option_map, refl, sym, ap, ap₂}
+use Rattle.std.proofs.Common.{◌≡◌, ◌∙◌, ℕ, List, map, Bool, true, false, Option, Some, None, option_and_then, option_map, refl, sym, ap, ap₂}
 use Rattle.std.specs.Cmp.Lexicographic.{slice_cmp}
 use Rattle.std.specs.Option.{option_map_or}
 use Rattle.std.specs.Ordering.{nat_cmp, on}
@@ -10,7 +10,7 @@ use Rattle.hq_schema.specs.Look.{type_at, type_named}
 use Rattle.hq_schema.specs.Schema.{ArgTree, FieldTree, TypeTree, SchemaTree, TypeRefTree, named, list_of, non_null}
 use Rattle.hq_schema.specs.declared.schema.Kind.{Kind}
 use Rattle.hq_schema.specs.declared.schema.Kind.TheVariants as kinds
-use Rattle.hq_request_introspect.specs.Answers.{whole_schema, type_by_name, root_value, answered}
+use Rattle.hq_request_introspect.specs.Answers.{type_by_name, root_value, answered}
 use Rattle.hq_request_introspect.specs.FieldNames.{field_named}
 use Rattle.hq_request_introspect.specs.Members.{field_value, input_value, enum_value, directive_value, default_value}
 use Rattle.hq_request_introspect.specs.Nodes.{NodeTree, schema_node, type_node, list_node, non_null_node, field_node, input_node, value_node, directive_node, ResolvedTree, leaf, one, many, nothing, type_or_null}

@@ -1,5 +1,5 @@
 -- What is known where is the same in a schema without origins.
-use Rattle.std.proofs.Common.{◌≡◌, ◌∙◌, ℕ, ◌==◌, List, map, Bool, true, false, cond, not, Option, Some, None, option_map, option_and_then, bytes_eq, refl, sym, ap}
+use Rattle.std.proofs.Common.{◌≡◌, ◌∙◌, ℕ, ◌==◌, List, map, false, cond, not, Option, Some, None, option_map, option_and_then, bytes_eq, refl, sym, ap}
 use Rattle.std.specs.Option.{option_or, option_map_or}
 use Rattle.hq_schema.specs.Look.{type_named, type_at, arg_in, field_in, field_of, input_field_of}
 use Rattle.hq_schema.specs.Schema.{TypeRefTree, named, list_of, non_null, base, ArgTree, FieldTree, TypeTree as TypeDef, SchemaTree}

@@ -1,9 +1,9 @@
 -- Lists and options under maps.
-use Rattle.std.proofs.Common.{◌≡◌, ◌∙◌, ℕ, zero, suc, ◌+◌, ◌||◌, List, [], ◌∷◌, ◌++◌, length, map, Bool, true, false, cond, not, nat_lt, Option, Some, None, option_map, option_and_then, slice_get, find, position, filter_map, refl, sym, ap}
+use Rattle.std.proofs.Common.{◌≡◌, ℕ, zero, suc, ◌+◌, List, [], ◌∷◌, ◌++◌, map, Bool, true, false, cond, not, Option, Some, None, option_map, option_and_then, slice_get, find, position, filter_map, refl, ap}
 use Rattle.std.specs.List.{list_any, position_or_len}
 use Rattle.std.specs.Option.{option_or, option_map_or}
 use Rattle.std.proofs.lemmas.List.{length-map}
-use Rattle.hq_gql_nodes.specs.Least.{earlier, least_of}
+use Rattle.hq_gql_nodes.specs.Least.{least_of}
 
 -- ---- lists
 

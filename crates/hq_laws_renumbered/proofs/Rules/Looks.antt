@@ -1,5 +1,5 @@
 -- Look-ups in a schema without origins find what they find in the schema, without its origins.
-use Rattle.std.proofs.Common.{◌≡◌, ◌∙◌, ℕ, List, map, Option, option_map, option_and_then, position, bytes_eq, refl, ap}
+use Rattle.std.proofs.Common.{◌≡◌, ◌∙◌, ℕ, List, map, option_map, option_and_then, position, bytes_eq, refl, ap}
 use Rattle.hq_schema.specs.Look.{type_named, type_at, arg_in, field_in, field_of, input_field_of, enum_value_of}
 use Rattle.hq_schema.specs.Schema.{ArgTree, FieldTree, TypeTree, SchemaTree}
 use Rattle.hq_laws_renumbered.specs.Schemas.Blank.{blank_arg, blank_field, blank_type, blank}

@@ -6,10 +6,10 @@ use Rattle.hq_gql_tree.specs.Selections.{FieldHead, InlineHead, SelectionTree, f
 use Rattle.hq_gql_tree.specs.Documents.{VarDefTree, DefinitionTree, operation, fragment, DocumentTree}
 use Rattle.hq_gql_tree.specs.declared.selection.TypeCond.{TypeCond}
 use Rattle.hq_gql_nodes.specs.Known.{PlaceTree, element_place, input_of, member_place, arg_place, args_of_field, below_field, args_of_directive, object_named, root_of, resolved, default_place}
-use Rattle.hq_gql_nodes.specs.Nodes.{NodeTree, variable_node, condition_node, field_node, spread_node, inline_node, directives_node, directive_node, argument_node, value_node, member_node, nodes_in_value, elements_nodes, members_nodes, value_nodes, argument_nodes, arguments_nodes, directive_nodes, each_directive, directives_nodes, condition_nodes, below_inline, field_head_nodes, inline_head_nodes, selection_nodes, selections_nodes, default_nodes, variable_nodes, variables_nodes, location_of, definition_nodes, PartTree, part_of, document_parts}
+use Rattle.hq_gql_nodes.specs.Nodes.{NodeTree, variable_node, condition_node, field_node, spread_node, inline_node, directives_node, directive_node, argument_node, value_node, member_node, nodes_in_value, elements_nodes, members_nodes, value_nodes, argument_nodes, arguments_nodes, directive_nodes, each_directive, directives_nodes, condition_nodes, below_inline, field_head_nodes, inline_head_nodes, selection_nodes, selections_nodes, default_nodes, variable_nodes, variables_nodes, location_of, definition_nodes, PartTree, document_parts}
 use Rattle.hq_gql_nodes.specs.declared.node.Location.{Location}
 use Rattle.hq_gql_nodes.specs.declared.node.Location.TheVariants as location
-use Rattle.hq_laws_renumbered.specs.Schemas.Blank.{blank_arg, blank}
+use Rattle.hq_laws_renumbered.specs.Schemas.Blank.{blank}
 use Rattle.hq_laws_renumbered.proofs.Rules.Lists.{map_append}
 use Rattle.hq_laws_renumbered.proofs.Rules.Known.{blank_args, same_input_of, same_member, same_arg, blank_args_of, same_below, blank_args_of_directive, same_object_named, same_inline, same_root, same_resolved, same_default}
 

@@ -1,5 +1,5 @@
 -- The selection sets of a document are the same in a schema without origins, and so are the fields that can't be merged.
-use Rattle.std.proofs.Common.{◌≡◌, ◌∙◌, ℕ, ◌+◌, List, [], ◌∷◌, ◌++◌, Option, Some, None, is_some, cond, option_and_then, option_map, option_to_list, length, refl, ap, ap₂}
+use Rattle.std.proofs.Common.{◌≡◌, ◌∙◌, ℕ, ◌+◌, List, [], ◌∷◌, ◌++◌, Option, Some, is_some, cond, option_map, option_to_list, length, refl, ap, ap₂}
 use Rattle.hq_schema.specs.Schema.{TypeRefTree, SchemaTree}
 use Rattle.hq_schema.specs.Schema as schema
 use Rattle.hq_gql_tree.specs.Selections.{FieldHead, SelectionTree, field, spread, inline, SelectionTrees, no_selection, selection}

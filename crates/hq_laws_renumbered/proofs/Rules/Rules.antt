@@ -1,7 +1,6 @@
 -- The rules of documents find the same in a schema without origins.
-use Rattle.std.proofs.Common.{◌≡◌, ◌∙◌, ℕ, zero, suc, List, [], ◌∷◌, length, map, Bool, true, false, not, Option, Some, None, is_none, option_and_then, option_map, slice_get, bytes_eq, filter_map, refl, sym, ap}
+use Rattle.std.proofs.Common.{◌≡◌, ◌∙◌, ℕ, zero, suc, List, [], ◌∷◌, length, map, false, not, Option, None, is_none, option_and_then, slice_get, refl, sym, ap}
 use Rattle.std.specs.List.{list_any}
-use Rattle.std.specs.Option.{option_map_or}
 use Rattle.hq_schema.specs.Schema.{ArgTree, SchemaTree}
 use Rattle.hq_gql_tree.specs.Values.{ArgumentTree}
 use Rattle.hq_gql_tree.specs.declared.selection.TypeCond.{TypeCond}
@@ -9,9 +8,9 @@ use Rattle.hq_gql_tree.specs.Documents.{VarDefTree, DefinitionTree, operation, f
 use Rattle.hq_gql_nodes.specs.Fragments.{Places, spread_target, spread_targets, graph_of}
 use Rattle.hq_gql_nodes.specs.Known.{object_named, is_input_type, resolved}
 use Rattle.hq_gql_nodes.specs.Least.{at_if, least_of}
-use Rattle.hq_gql_nodes.specs.Nodes.{NodeTree, variable_node, condition_node, field_node, spread_node, inline_node, directives_node, directive_node, argument_node, value_node, member_node, PartTree}
+use Rattle.hq_gql_nodes.specs.Nodes.{NodeTree, variable_node, condition_node, spread_node, inline_node, argument_node, value_node, PartTree}
 use Rattle.hq_gql_nodes.specs.Reach.{Graph, reached}
-use Rattle.hq_rules_reach.specs.Spreads.{least_below, place_at, least_at, spreads, is_spread, unused_by, no_unused_fragments}
+use Rattle.hq_rules_reach.specs.Spreads.{least_below, place_at, spreads, is_spread, unused_by, no_unused_fragments}
 use Rattle.hq_rules_reach.specs.Uses.{UseTree, use_of, uses_of, all_uses, uses_at}
 use Rattle.hq_rules_reach.specs.Variables.{variable_named, has_default, is_wrong_type, wrong_use, wrong_in, in_operation, variables_in_allowed_position}
 use Rattle.hq_rules_doc.specs.NodeRules.{known_type_names, fragments_on_composite_types, type_of_condition, type_of_fragment, condition_of, are_other, possible_fragment_spreads, variables_are_input_types, node_place, rule_place}
@@ -21,7 +20,7 @@ use Rattle.hq_laws_renumbered.specs.Schemas.Blank.{blank}
 use Rattle.hq_laws_renumbered.proofs.Rules.Lists.{any_map, filter_map_map, map_twice, least_map, least_alike, and_alike, map_or_alike}
 use Rattle.hq_laws_renumbered.proofs.Rules.Looks.{blank_named}
 use Rattle.hq_laws_renumbered.proofs.Rules.Known.{blank_args, same_object_named, same_resolved, same_input_type}
-use Rattle.hq_laws_renumbered.proofs.Rules.Nodes.{blank_node, blank_nodes, blank_part}
+use Rattle.hq_laws_renumbered.proofs.Rules.Nodes.{blank_node, blank_part}
 
 -- ---- what a document spreads and uses
 

@@ -1,16 +1,15 @@
 -- The rules of fields, arguments and values find the same in a schema without origins.
-use Rattle.std.proofs.Common.{◌≡◌, ◌∙◌, ℕ, ◌&&◌, List, [], ◌∷◌, map, Bool, true, false, not, Option, Some, None, is_some, is_none, option_and_then, option_map, refl, sym, ap}
-use Rattle.std.specs.List.{list_any}
+use Rattle.std.proofs.Common.{◌≡◌, ◌∙◌, ℕ, ◌&&◌, List, map, false, not, Option, Some, None, is_some, is_none, option_map, refl, ap}
 use Rattle.std.specs.Option.{option_map_or}
 use Rattle.hq_schema.specs.declared.origin.TypeOrigin.{TypeOrigin}
 use Rattle.hq_schema.specs.declared.origin.TypeOrigin.TheVariants as origin
-use Rattle.hq_schema.specs.Look.{type_at, arg_in, input_field_of, enum_value_of}
+use Rattle.hq_schema.specs.Look.{type_at, arg_in, input_field_of}
 use Rattle.hq_schema.specs.Schema.{TypeRefTree, base, ArgTree, FieldTree, TypeTree, SchemaTree}
 use Rattle.hq_gql_tree.specs.Values.{ValueTree, int, float, str, bool, null, enum, list, object, variable, ArgumentTree, MemberTrees, members_in}
-use Rattle.hq_gql_nodes.specs.Known.{PlaceTree, known_field, object_at, input_at, input_of, args_of_field, args_of_directive}
+use Rattle.hq_gql_nodes.specs.Known.{PlaceTree, known_field, object_at, input_of, args_of_field, args_of_directive}
 use Rattle.hq_gql_nodes.specs.Least.{at_if, least_of}
-use Rattle.hq_gql_nodes.specs.Nodes.{NodeTree, variable_node, condition_node, field_node, spread_node, inline_node, directives_node, directive_node, argument_node, value_node, member_node, PartTree}
-use Rattle.hq_rules_fields.specs.Literals.{scalar_takes, enum_takes, leaf_by, leaf_takes, takes}
+use Rattle.hq_gql_nodes.specs.Nodes.{NodeTree, field_node, directive_node, argument_node, value_node, member_node, PartTree}
+use Rattle.hq_rules_fields.specs.Literals.{enum_takes, leaf_by, leaf_takes, takes}
 use Rattle.hq_rules_fields.specs.NodeRules.{fields_on_correct_type, has_selections, is_wrong_leaf, scalar_leafs, known_argument_names, lacks, lacks_any, provided_required_arguments, is_wrong_value, values_of_correct_type, known_input_fields, object_members, inputs_in, lacks_input, lacks_at, required_input_fields, unique_argument_names, unique_input_fields, node_place, rule_place}
 use Rattle.hq_rules_fields.specs.declared.rules.NodeRule.{NodeRule}
 use Rattle.hq_rules_fields.specs.declared.rules.NodeRule.TheVariants as rule

@@ -1,7 +1,6 @@
 -- Lists: searches, and items that are read one after another.
-use Rattle.std.proofs.Common.{◌≡◌, ◌∙◌, ◌≢◌, ℕ, zero, suc, ◌+◌, ◌<◌, ◌==◌, nat_lt, ◌&&◌, ◌||◌, List, [], ◌∷◌, ◌++◌, length, map, Bool, true, false, cond, not, Option, Some, None, Result, Ok, Err, slice_get, find, position, flat_map, refl, sym, ap, subst, arith, lt-ltb}
-use Rattle.std.specs.List.{list_all, list_any, position_or_len, prefix_len}
-use Rattle.std.specs.Option.{option_or}
+use Rattle.std.proofs.Common.{◌≡◌, ◌∙◌, ℕ, zero, suc, ◌<◌, ◌||◌, List, [], ◌∷◌, ◌++◌, length, map, Bool, true, false, not, Some, None, slice_get, find, position, flat_map, refl, sym, ap, subst, arith, lt-ltb}
+use Rattle.std.specs.List.{list_all, list_any, position_or_len}
 use Rattle.std.proofs.lemmas.Bool.{and_parts, or_parts, true≢false}
 use Rattle.std.proofs.lemmas.List.Folds.{find-append}
 use Rattle.hq_base.specs.Lists.{Each, all_differ}

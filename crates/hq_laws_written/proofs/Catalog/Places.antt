@@ -1,12 +1,11 @@
 -- Columns under their names: a name that stands for a place is read as that place.
-use Rattle.std.proofs.Common.{◌≡◌, ◌∙◌, ℕ, zero, suc, ◌==◌, nat_lt, ◌&&◌, List, [], ◌∷◌, length, map, Bool, true, false, not, Option, Some, None, Ok, slice_get, position, bytes_eq, ok_or, refl, sym, ap, eq-eqb}
+use Rattle.std.proofs.Common.{◌≡◌, ◌∙◌, ℕ, suc, ◌&&◌, List, [], ◌∷◌, length, map, Bool, true, false, not, Option, Some, None, Ok, slice_get, position, bytes_eq, refl, sym, ap}
 use Rattle.std.specs.List.{list_all, list_any, zip}
 use Rattle.std.specs.Cmp.Lexicographic.{bytes_decides}
 use Rattle.std.proofs.lemmas.Bool.{and_from, and_parts}
-use Rattle.std.proofs.lemmas.Bool.Decides.{Decides-eqb}
 use Rattle.hq_base.specs.Lists.{Each, all_differ}
 use Rattle.hq_base.specs.Types.{is_ordered}
-use Rattle.hq_model.specs.Catalog.{type_of, can_pair, column_type, pairs_fit, is_key_column}
+use Rattle.hq_model.specs.Catalog.{type_of, can_pair, pairs_fit, is_key_column}
 use Rattle.hq_model.specs.declared.table.Column.{Column}
 use Rattle.hq_model.specs.declared.table.Table.{Table}
 use Rattle.hq_load_catalog.specs.Resolved.{column_named, key_column_named, settled}

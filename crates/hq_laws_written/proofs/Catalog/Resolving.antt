@@ -1,10 +1,8 @@
 -- A written catalog's names are read as the places that they stand for.
-use Rattle.std.proofs.Common.{◌≡◌, ◌∙◌, ℕ, zero, suc, ◌+◌, ◌<◌, ◌==◌, nat_lt, ◌&&◌, ◌++◌, List, [], ◌∷◌, length, map, Bool, true, false, cond, not, Option, Some, None, Result, Ok, Err, ok_or, bytes_eq, slice_get, position, refl, sym, ap, eq-eqb}
-use Rattle.std.specs.List.{list_all, list_any, zip}
+use Rattle.std.proofs.Common.{◌≡◌, ◌∙◌, ℕ, ◌==◌, nat_lt, ◌&&◌, List, [], ◌∷◌, length, map, Bool, true, Option, Some, None, Ok, ok_or, bytes_eq, slice_get, refl, ap, eq-eqb}
+use Rattle.std.specs.List.{list_all, zip}
 use Rattle.std.specs.Cmp.Lexicographic.{bytes_decides}
 use Rattle.std.proofs.lemmas.Bool.{and_parts, and_from}
-use Rattle.std.proofs.lemmas.List.{length-map}
-use Rattle.hq_base.specs.Due.{and_then, mapped}
 use Rattle.hq_base.specs.Lists.{Each, all_differ}
 use Rattle.hq_base.specs.Path.{top_path}
 use Rattle.hq_base.proofs.Lists.{each_weaken}
@@ -15,15 +13,14 @@ use Rattle.hq_model.specs.declared.table.ForeignKey.{ForeignKey}
 use Rattle.hq_model.specs.declared.table.Table.{Table}
 use Rattle.hq_load_catalog.specs.Each.{each}
 use Rattle.hq_load_catalog.specs.Node.{at}
-use Rattle.hq_load_catalog.specs.Resolved.{column_named, key_column_named, table_named, columns_at, can_refer, foreign_key_of, settled, table_of, resolved}
+use Rattle.hq_load_catalog.specs.Resolved.{column_named, key_column_named, table_named, columns_at, can_refer, foreign_key_of, table_of, resolved}
 use Rattle.hq_load_catalog.specs.Resolved as reading
 use Rattle.hq_load_catalog.specs.declared.field.Field.TheVariants as field
-use Rattle.hq_load_catalog.specs.declared.refusal.CatalogRefusal.{CatalogRefusal}
 use Rattle.hq_load_catalog.specs.declared.refusal.CatalogRefusal.TheVariants.{Shape}
 use Rattle.hq_load_catalog.specs.declared.written.WrittenForeignKey.{WrittenForeignKey}
 use Rattle.hq_load_catalog.specs.declared.written.WrittenTable.{WrittenTable}
 use Rattle.hq_laws_written.specs.Catalog.Written.{name_at, schema_in, table_name_in, columns_in}
-use Rattle.hq_laws_written.proofs.Catalog.Lists.{position_of, differ_weaken, differ_map, slice_get_map, each_true}
+use Rattle.hq_laws_written.proofs.Catalog.Lists.{position_of, differ_weaken, differ_map, slice_get_map}
 use Rattle.hq_laws_written.proofs.Catalog.Places.{same_name, IsPlace, IsKeyPlace, differ, named_place, named_key, key_places, own_places, remote_places, as_many, zipped, settled_all}
 use Rattle.hq_laws_written.proofs.Catalog.Shapes.{each_back, itself, written, written_key}
 use Rattle.hq_laws_written.proofs.Catalog.Tests.{IsGood}

@@ -1,5 +1,5 @@
 -- What a written catalog has the form of: its tables, by names.
-use Rattle.std.proofs.Common.{◌≡◌, ◌∙◌, ℕ, zero, suc, ◌+◌, ◌<◌, ◌==◌, nat_lt, List, [], ◌∷◌, ◌++◌, length, map, Bool, true, false, cond, not, Option, Some, None, Result, Ok, Err, slice_get, refl, sym, ap, arith, ne_eqb, ltb-true}
+use Rattle.std.proofs.Common.{◌≡◌, ◌∙◌, ℕ, ◌+◌, ◌==◌, nat_lt, List, [], ◌∷◌, ◌++◌, length, map, Bool, true, false, cond, not, Some, Result, Ok, Err, slice_get, refl, sym, ap, arith, ne_eqb, ltb-true}
 use Rattle.std.proofs.lemmas.Bool.{or_parts, true≢false}
 use Rattle.hq_base.specs.Due.{and_then, mapped}
 use Rattle.hq_base.specs.Json.{JsonTree, bool, str, elements_of}
@@ -15,7 +15,7 @@ use Rattle.hq_model.specs.declared.table.ForeignKey.{ForeignKey}
 use Rattle.hq_model.specs.declared.table.Table.{Table}
 use Rattle.hq_load_catalog.specs.Each.{each, each_from}
 use Rattle.hq_load_catalog.specs.Field.{field_name}
-use Rattle.hq_load_catalog.specs.Node.{required, at, object_at, text_at, text_member, list_member, names_member, object_member}
+use Rattle.hq_load_catalog.specs.Node.{at, object_at, text_at, text_member, list_member, names_member, object_member}
 use Rattle.hq_load_catalog.specs.Shape.{type_member, of_absent, of_member, nullable_member, column_at, columns_member, foreign_key_at, foreign_keys_member, table_at, written_tables}
 use Rattle.hq_load_catalog.specs.declared.field.Field.TheVariants as field
 use Rattle.hq_load_catalog.specs.declared.refusal.CatalogRefusal.{CatalogRefusal}
@@ -25,7 +25,7 @@ use Rattle.hq_load_catalog.specs.declared.written.WrittenTable.{WrittenTable}
 use Rattle.hq_laws_written.specs.Json.Building.{object}
 use Rattle.hq_laws_written.specs.Json.ReadBack.{in_name_order, elements_in_name_order}
 use Rattle.hq_laws_written.proofs.Json.Building.{elements_read}
-use Rattle.hq_laws_written.specs.Catalog.Written.{name_at, has_of, column_json, schema_in, table_name_in, columns_in, table_ref, foreign_json, table_json, catalog_json}
+use Rattle.hq_laws_written.specs.Catalog.Written.{name_at, has_of, column_json, schema_in, table_name_in, columns_in, foreign_json, table_json, catalog_json}
 use Rattle.hq_laws_written.proofs.Catalog.Lists.{map_each}
 
 -- ---- arrays

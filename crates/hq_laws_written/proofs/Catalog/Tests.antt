@@ -1,7 +1,6 @@
 -- A written catalog passes each test of a catalog file.
-use Rattle.std.proofs.Common.{◌≡◌, ◌∙◌, ℕ, zero, suc, ◌+◌, ◌<◌, ◌≤◌, ◌==◌, nat_lt, nat_le, ◌&&◌, ◌++◌, List, [], ◌∷◌, length, map, Bool, true, false, cond, not, Option, Some, None, find, flat_map, bytes_eq, option_map, slice_get, refl, sym, ap, arith, ne_eqb, eq-eqb, ltb-true, append_assoc}
+use Rattle.std.proofs.Common.{◌≡◌, ◌∙◌, ℕ, ◌==◌, nat_lt, nat_le, ◌++◌, List, [], ◌∷◌, length, map, Bool, true, false, not, None, find, bytes_eq, option_map, slice_get, refl, sym, ap, arith, ne_eqb, eq-eqb, ltb-true, append_assoc}
 use Rattle.std.specs.List.{list_all, list_any}
-use Rattle.std.specs.Option.{option_or}
 use Rattle.std.proofs.lemmas.Bool.{and_parts, or_parts, true≢false}
 use Rattle.std.proofs.lemmas.Bool.Decides.{nat_tests}
 use Rattle.std.proofs.lemmas.List.{length-map}
@@ -13,12 +12,12 @@ use Rattle.hq_model.specs.declared.table.Column.{Column}
 use Rattle.hq_model.specs.declared.table.Table.{Table}
 use Rattle.hq_load_catalog.specs.Field.{field_name}
 use Rattle.hq_load_catalog.specs.Limits.{too_many, too_many_tables, too_many_columns, declared_names, wrong_length}
-use Rattle.hq_load_catalog.specs.Repeats.{full_name, known, first_repeat, repeat_within, repeat_from, repeated, no_key}
+use Rattle.hq_load_catalog.specs.Repeats.{full_name, first_repeat, repeat_within, repeat_from, repeated, no_key}
 use Rattle.hq_load_catalog.specs.declared.field.Field.TheVariants as field
 use Rattle.hq_load_catalog.specs.declared.refusal.CatalogRefusal.TheVariants.{TooMany, NameLength, Repeated, NoKey}
 use Rattle.hq_load_catalog.specs.declared.written.WrittenTable.{WrittenTable}
 use Rattle.hq_laws_written.specs.Catalog.Written.{name_at}
-use Rattle.hq_laws_written.proofs.Catalog.Lists.{not_true, each_true, find_none, find_none_flat, none_before, differ_weaken, differ_map}
+use Rattle.hq_laws_written.proofs.Catalog.Lists.{not_true, each_true, find_none, find_none_flat, none_before, differ_map}
 use Rattle.hq_laws_written.proofs.Catalog.Places.{IsPlace, IsKeyPlace, key_place, differ, key_places, one_place}
 use Rattle.hq_laws_written.proofs.Catalog.Shapes.{written}
 
@@ -80,7 +79,8 @@ not_too_many tables few h = rw (few_tables tables few) (few_columns tables table
 names_right : (tables : List Table) (t : Table) → IsGood tables t → find (λ name. not (is_catalog_name name)) (declared_names (written tables t)) ≡ None
 names_right tables t g =
     rw (g.schema, g.name) (find_none (λ name. not (is_catalog_name name)) (λ (c : Column). c.name) t.columns
-    (each_weaken (λ (c : Column). is_catalog_name c.name ≡ true) (λ c. not (is_catalog_name c.name) ≡ false) (λ c h. ap not h) t.columns (each_true (λ (c : Column). is_catalog_name c.name) t.columns g.names)))
+    (each_weaken (λ (c : Column). is_catalog_name c.name ≡ true) (λ c. not (is_catalog_name c.name) ≡ false) (λ c h. ap not h) t.columns
+    (each_true (λ (c : Column). is_catalog_name c.name) t.columns g.names)))
 
 all_right : (tables ts : List Table) → Each (IsGood tables) ts → Each (λ w. find (λ name. not (is_catalog_name name)) (declared_names w) ≡ None) (map (written tables) ts)
 all_right tables [] h = tt

@@ -1,5 +1,5 @@
 -- A catalog's value in name order gives the catalog.
-use Rattle.std.proofs.Common.{◌≡◌, ◌∙◌, nat_lt, List, length, map, true, Ok, refl, ap}
+use Rattle.std.proofs.Common.{◌≡◌, nat_lt, List, length, true, Ok}
 use Rattle.std.proofs.lemmas.Bool.{and_parts}
 use Rattle.hq_base.proofs.Lists.{each_weaken}
 use Rattle.hq_model.specs.Catalog.{is_catalog}

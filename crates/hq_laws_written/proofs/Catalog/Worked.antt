@@ -1,7 +1,7 @@
 -- A worked catalog and its text.
-use Rattle.std.proofs.Common.{◌≡◌, List, [], ◌∷◌, codes, true, false, refl}
+use Rattle.std.proofs.Common.{◌≡◌, [], ◌∷◌, codes, true, false, refl}
 use Rattle.hq_base.specs.Compact.{compact, escaped}
-use Rattle.hq_base.specs.declared.value.Ty.TheVariants.{Integer, Text}
+use Rattle.hq_base.specs.declared.value.Ty.TheVariants.{Integer}
 use Rattle.hq_load_catalog.specs.Field.{field_name}
 use Rattle.hq_model.specs.Catalog.{is_catalog}
 use Rattle.hq_model.specs.declared.table.Table.{Table}

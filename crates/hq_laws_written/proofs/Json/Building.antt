@@ -1,5 +1,5 @@
 -- Values that are built of lists: what of them can be read back, and what they are read as.
-use Rattle.std.proofs.Common.{◌≡◌, ◌∙◌, ℕ, suc, ◌+◌, ◌≤◌, max, ℤ, List, [], ◌∷◌, map, Bool, true, false, ◌&&◌, bytes_eq, refl, sym, ap, ap₂, arith}
+use Rattle.std.proofs.Common.{◌≡◌, ◌∙◌, ℕ, suc, ◌≤◌, ℤ, List, [], ◌∷◌, map, Bool, true, ◌&&◌, bytes_eq, refl, ap, arith}
 use Rattle.std.specs.List.{list_all}
 use Rattle.std.proofs.lemmas.Bool.{and_from, and_parts}
 use Rattle.hq_base.specs.Json.{JsonTree, bool, int, str, elements_of, members_of, names_of, has_distinct_names, elements_have_distinct_names, values_have_distinct_names}

@@ -65,7 +65,8 @@ module _ (k : TrackedTree) (columns : List Column) (apart : differ columns ≡ t
   each_read P h =
       each_sort by_name P (map (λ (m : Read). (m.0, in_name_order m.1)) (column_configs k columns))
       (each_map P (λ (m : Read). (m.0, in_name_order m.1)) (column_configs k columns)
-      (each_sort by_name (λ (m : Read). P (m.0, in_name_order m.1)) (map (column_config k columns) (shown_columns k columns)) (each_map (λ (m : Read). P (m.0, in_name_order m.1)) (column_config k columns) (shown_columns k columns) h)))
+      (each_sort by_name (λ (m : Read). P (m.0, in_name_order m.1)) (map (column_config k columns) (shown_columns k columns))
+      (each_map (λ (m : Read). P (m.0, in_name_order m.1)) (column_config k columns) (shown_columns k columns) h)))
 
   -- a test of some member
   any_read : (p : Read → Bool) → list_any p configs_read ≡ list_any (λ c. p (config_read c)) (shown_columns k columns)
@@ -105,7 +106,8 @@ module _ (k : TrackedTree) (columns : List Column) (apart : differ columns ≡ t
   configs_pass path =
       ap (all_pass (λ (m : Read). member_due (column_config_at columns) path m.0 (unless_null m.1))) configs_are
       ∙ all_passed path configs_read (each_read (λ m. member_due (column_config_at columns) path m.0 (unless_null m.1) ≡ Ok tt)
-      (each_weaken (IsPlace columns) (λ c. member_due (column_config_at columns) path (config_read c).0 (unless_null (config_read c).1) ≡ Ok tt) (λ c is. config_passes c path is) (shown_columns k columns) shown_there))
+      (each_weaken (IsPlace columns) (λ c. member_due (column_config_at columns) path (config_read c).0 (unless_null (config_read c).1) ≡ Ok tt)
+      (λ c is. config_passes c path is) (shown_columns k columns) shown_there))
 
   -- ---- the names
 

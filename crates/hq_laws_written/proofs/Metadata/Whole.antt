@@ -28,7 +28,7 @@ use Rattle.hq_laws_written.proofs.Metadata.Parts.{Apart}
 use Rattle.hq_laws_written.proofs.Metadata.Permitted as permitted
 use Rattle.hq_laws_written.proofs.Metadata.Permitted.{permitted_back}
 use Rattle.hq_laws_written.proofs.Metadata.Related as related
-use Rattle.hq_laws_written.proofs.Metadata.Related.{related_back, without_perms}
+use Rattle.hq_laws_written.proofs.Metadata.Related.{related_back}
 use Rattle.hq_laws_written.proofs.Metadata.Repeats.{no_repeat}
 use Rattle.hq_laws_written.proofs.Metadata.Top.{not_wrapped, entries_back, no_roles}
 

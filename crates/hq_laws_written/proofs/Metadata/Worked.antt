@@ -1,5 +1,5 @@
 -- A worked metadata and its text.
-use Rattle.std.proofs.Common.{◌≡◌, [], ◌∷◌, Some, codes, true, false, refl}
+use Rattle.std.proofs.Common.{◌≡◌, ◌++◌, [], ◌∷◌, Some, codes, true, false, refl}
 use Rattle.std.specs.Fmt.{digits}
 use Rattle.std.specs.Str.{is_utf8, chars}
 use lib.Utf8.{encode}
@@ -37,8 +37,13 @@ abbrev whole : MetaTree
 whole = record { tracked = tracked ∷ []; inherited = [] }
 
 whole_text : compact (meta_json (authors ∷ []) whole)
-    ≡ codes
-    "{\"version\":3,\"sources\":[{\"name\":\"default\",\"kind\":\"postgres\",\"tables\":[{\"table\":{\"schema\":\"public\",\"name\":\"author\"},\"configuration\":{\"custom_name\":\"writer\",\"column_config\":{\"id\":{\"custom_name\":\"number\"}},\"custom_root_fields\":{\"select\":\"writers\",\"select_by_pk\":\"writer_by_pk\",\"select_aggregate\":\"writers_aggregate\"}},\"object_relationships\":[{\"name\":\"boss\",\"using\":{\"manual_configuration\":{\"remote_table\":{\"schema\":\"public\",\"name\":\"author\"},\"column_mapping\":{\"editor\":\"id\"}}}}],\"array_relationships\":[],\"select_permissions\":[{\"role\":\"reader\",\"permission\":{\"columns\":[\"id\"],\"filter\":{},\"limit\":10,\"allow_aggregations\":true}}]}]}]}"
+    ≡ codes "{\"version\":3,\"sources\":[{\"name\":\"default\",\"kind\":\"postgres\",\"tables\":[{\"table\":{\"schema\":\"public\",\"name\":\"author\"},"
+    ++ codes "\"configuration\":{\"custom_name\":\"writer\",\"column_config\":{\"id\":{\"custom_name\":\"number\"}},"
+    ++ codes "\"custom_root_fields\":{\"select\":\"writers\",\"select_by_pk\":\"writer_by_pk\",\"select_aggregate\":\"writers_aggregate\"}},"
+    ++ codes "\"object_relationships\":[{\"name\":\"boss\",\"using\":{\"manual_configuration\":{\"remote_table\":{\"schema\":\"public\",\"name\":\"author\"},"
+    ++ codes "\"column_mapping\":{\"editor\":\"id\"}}}}],"
+    ++ codes "\"array_relationships\":[],\"select_permissions\":[{\"role\":\"reader\","
+    ++ codes "\"permission\":{\"columns\":[\"id\"],\"filter\":{},\"limit\":10,\"allow_aggregations\":true}}]}]}]}"
 unfolding field_name escaped digits
 whole_text = refl
 

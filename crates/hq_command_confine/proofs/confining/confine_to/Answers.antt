@@ -1,4 +1,4 @@
-use Rattle.std.proofs.Common.{◌∙◌, ap, sym}
+use Rattle.std.proofs.Common.{◌∙◌, ap}
 use Rattle.hq_model.specs.Meta.{meta_view}
 use Rattle.hq_command_confine.specs.Confining.{without_line_end}
 use Rattle.hq_command_confine.specs.Said.{said_view}

@@ -1,10 +1,7 @@
 -- The text is read as the catalog's value in name order, which has the catalog's form and passes each test.
-use Rattle.std.proofs.Common.{◌∙◌, ap, Ok}
-use Rattle.std.proofs.lemmas.Bool.{and_parts}
-use Rattle.hq_base.proofs.Lists.{each_weaken}
+use Rattle.std.proofs.Common.{◌∙◌, ap}
 use Rattle.hq_base.specs.Due.{and_then}
 use Rattle.hq_load_catalog.specs.Reading.{catalog_due, catalog_of, json_in}
-use Rattle.hq_laws_written.specs.Json.ReadBack.{in_name_order}
 use Rattle.hq_laws_written.specs.Catalog.Written.{catalog_json}
 use Rattle.hq_laws_written.proofs.Catalog.Clean.{catalog_readable}
 use Rattle.hq_laws_written.proofs.Catalog.Whole.{catalog_back}
