@@ -57,7 +57,7 @@ create table "Loans"."Loan of a Book" ("Id" integer primary key, "who's" text, "
     foreign key (title, author_id) references library.book (title, author_id));
 insert into "Loans"."Loan of a Book" values (1, 'me', true, 'First', 1), (2, null, null, null, null);
 
--- whole partitioned tables, and tables with heirs without their rows
+-- whole partitioned tables, and tables with heirs with the rows of these
 create table visit (id integer, room integer, primary key (id)) partition by range (id);
 create table visit_low partition of visit for values from (0) to (100);
 create table visit_high partition of visit for values from (100) to (200);
