@@ -1,0 +1,10 @@
+mod Links
+mod Rows
+pub mod Bridge
+pub mod Causes
+pub mod Made
+pub mod Planned
+mod Unfailed
+pub mod Answering
+pub mod Databases
+pub mod SchemaNames
