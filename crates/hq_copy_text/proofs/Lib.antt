@@ -1,0 +1,2 @@
+mod TableTexts
+mod Steps
