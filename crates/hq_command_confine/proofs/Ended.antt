@@ -27,6 +27,7 @@ said_ends IsDue old new output (Err (refusal.Database before after)) due h = tt
 said_ends IsDue old new output (Err refusal.BadWords) due h = absurd cc
 said_ends IsDue old new output (Err (refusal.File file fault)) due h = absurd cc
 said_ends IsDue old new output (Err refusal.InputTooLong) due h = absurd cc
+said_ends IsDue old new output (Err (refusal.NotCopied cause)) due h = absurd cc
 
 -- want of memory says nothing of what was due
 pub by_memory : (IsDue : List ℕ → Result Output Refusal → Type 0) (left old new : Option (List ℕ)) (answer : Answer) → answer ≡ Err refusal.Memory → IfSome left (λ l. EndsBy (IsDue l) old new answer)

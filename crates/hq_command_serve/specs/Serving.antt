@@ -61,6 +61,7 @@ module _ {L : Type 0} (before after : SeenDoor L) (old new : Option (List ℕ)) 
   EndsOver over files dir (Err refusal.BadWords) = ⊥
   EndsOver over files dir (Err (refusal.Database b a)) = ⊥
   EndsOver over files dir (Err refusal.InputTooLong) = ⊥
+  EndsOver over files dir (Err (refusal.NotCopied cause)) = ⊥
 
 module _ {L : Type 0} (t : Told L) (rule : SecretRule) (connections : ℕ) (before after : SeenDoor L) (old new : Option (List ℕ)) where
   -- So many connections were served by who the rule says that the caller is, with the replies that are due over the tables,
