@@ -7,7 +7,7 @@ use Rattle.hq_model.specs.Selected.{SortKey}
 use Rattle.hq_sql_tree.specs.Tree as tree
 use Rattle.hq_sql_tree.specs.Tree.{ExprTree, OrderTree, OrderTrees, OutTree, JoinTree, orders_of}
 use Rattle.hq_translation.specs.Fine.{Has}
-use Rattle.hq_translation.specs.Looks.{Look, Place, own_look, is_used}
+use Rattle.hq_translation.specs.Looks.{Look, ColumnName, own_look, is_used}
 use Rattle.hq_translation.specs.Names.{table_alias, fold_alias, value_name, key_name}
 use Rattle.hq_translation.specs.Rights.{Rights, rights_of}
 use Rattle.hq_translation.specs.Sorts.{Sort, shown_sorts, own_sorts, used_by, used_sorts, last_used, sort_form, sort_place, sort_numbers, sort_joins, sorts_numbers, sorts_joins, orders, key_outputs, output_orders}
@@ -27,7 +27,7 @@ module _ (s : Schema) (g : Grants) (t p : ℕ) (look : Look) where
   behind_sorts [] n = n
   behind_sorts (k ∷ ks) n = behind_sorts ks (n + sort_numbers k.through s (rights_of g) t k.column)
 
-  abbrev pub place_at : SortKey → ℕ → Place
+  abbrev pub place_at : SortKey → ℕ → ColumnName
   place_at k n = sort_place false k.through s look t p n k.column
 
   -- entries as sort keys of the rows

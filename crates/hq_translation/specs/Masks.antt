@@ -7,7 +7,7 @@ use Rattle.hq_model.specs.Schema.{Schema, table}
 use Rattle.hq_sql_tree.specs.Tree as tree
 use Rattle.hq_sql_tree.specs.Tree.{SelectTree, JoinTree, OutTree, ExprTree, PredTree}
 use Rattle.hq_translation.specs.Names.{table_alias, join_alias, value_name}
-use Rattle.hq_translation.specs.Looks.{Look, Place, is_used, own_look, cell_at}
+use Rattle.hq_translation.specs.Looks.{Look, ColumnName, is_used, own_look, cell_at}
 use Rattle.hq_translation.specs.Conditions.{with_member, where_of}
 use Rattle.hq_translation.specs.Predicates.{Mode, own_numbers, own_predicate}
 
@@ -15,7 +15,7 @@ use Rattle.hq_translation.specs.Predicates.{Mode, own_numbers, own_predicate}
 abbrev pub value_output : ExprTree → List OutTree
 value_output e = record { value = e; name = value_name } ∷ []
 
-abbrev pub value_place : (n : ℕ) → Place
+abbrev pub value_place : (n : ℕ) → ColumnName
 value_place n = record { alias = join_alias n; name = value_name }
 
 -- how many numbers masks of table t take

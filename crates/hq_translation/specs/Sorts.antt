@@ -7,7 +7,7 @@ use Rattle.hq_model.specs.Selected.{SortKey}
 use Rattle.hq_sql_tree.specs.declared.expr.ColumnForm.{ColumnForm}
 use Rattle.hq_sql_tree.specs.Tree.{column, OrderTree, OutTree, JoinTree}
 use Rattle.hq_translation.specs.Names.{fold_alias, join_alias, key_name}
-use Rattle.hq_translation.specs.Looks.{Look, Place, type_in, compared_form, own_look, cell_at}
+use Rattle.hq_translation.specs.Looks.{Look, ColumnName, type_in, compared_form, own_look, cell_at}
 use Rattle.hq_translation.specs.Predicates.{link}
 use Rattle.hq_translation.specs.Masks.{value_place, extra, masks, shown_look, filter_numbers, filter_predicate}
 use Rattle.hq_translation.specs.Selects.{filter_from, behind_filter, first_select}
@@ -50,7 +50,7 @@ abbrev pub sort_form : Schema → (t : ℕ) → SortKey → ColumnForm
 sort_form s t k = compared_form (type_in (table s (end_of k.through s t)).columns k.column)
 
 -- where the cell of a sort key stands, for a row at the alias of number p; n is the number of its join
-abbrev pub sort_place : (own : Bool) → (through : List ℕ) → Schema → Look → (t p n c : ℕ) → Place
+abbrev pub sort_place : (own : Bool) → (through : List ℕ) → Schema → Look → (t p n c : ℕ) → ColumnName
 sort_place true rs s look t p n c = own_look (table s t).columns p c
 sort_place false [] s look t p n c = look c
 sort_place false (r ∷ rs) s look t p n c = value_place n
