@@ -16,7 +16,7 @@ use crate::joins::gather;
 use crate::truths::all_hold;
 use hq_base::{Memory, Txt};
 use hq_sql_access::pinned::{Known, Pinned};
-use hq_sql_access::place::{Place, add_places};
+use hq_sql_access::place::{JoinedRow, add_places};
 use hq_sql_access::scope::{Scope, Source, row_at};
 use hq_sql_access::stages::Stage;
 use hq_sql_scans::pages::has_enough;
@@ -27,7 +27,7 @@ use std::alloc::Global;
 /// Places of rows that WHERE keeps, and the number of the next position.
 #[derive(Drop)]
 pub struct Piece<'d> {
-    pub places: Vec<Place<'d>>,
+    pub places: Vec<JoinedRow<'d>>,
     pub next: usize,
 }
 
