@@ -3,7 +3,7 @@ use Rattle.std.specs.Prelude.{List, [], find, map, ◌==◌, option_map, option_
 use Rattle.hq_model.specs.Bexp.{bexp_view, never}
 use Rattle.hq_model.specs.PermView.{mask_view}
 use Rattle.hq_model.specs.Schema.{Schema}
-use Rattle.hq_model.specs.Scope.{scope_schema}
+use Rattle.hq_model.specs.Described.{scope_schema}
 use Rattle.hq_translation.specs.Rights.{Rights}
 use Rattle.hq_compile_tables.specs.declared.context.Granted.{Granted}
 use Rattle.hq_compile_tables.specs.declared.context.Context.{Context}
