@@ -8,7 +8,7 @@ use Rattle.hq_translation.specs.Looks.{Look, ColumnName, own_look, cell_at, is_u
 use Rattle.hq_translation.specs.Masks.{value_place, extra, masks, shown_look, filter_numbers, filter_predicate}
 use Rattle.hq_translation.specs.Names.{join_alias, value_name}
 use Rattle.hq_translation.specs.Predicates.{link}
-use Rattle.hq_translation.specs.Rights.{Rights, rights_of}
+use Rattle.hq_translation.specs.GrantedTables.{GrantedTables, rights_of}
 use Rattle.hq_translation.specs.Selects.{filter_from, behind_filter, first_select}
 use Rattle.hq_translation.specs.Sorts.{Sort, last_used, sort_place, sort_numbers, sort_joins, sorts_numbers, sorts_joins}
 use Rattle.hq_translation.proofs.Names.{used_one}
@@ -61,7 +61,7 @@ module _ (s : Schema) (g : Grants) where
   chain_clean [] scope t p n c look f own lt bound here =
       joined_none s g scope n (n + 0) (λ final. PlainAt final (look c)) (λ final grown. here final (λ a u. grown a (under_later n (n + 0) a (omega arith) u)) (used_one c))
   chain_clean (r ∷ rs) scope t p n c look f own lt bound here =
-      let R : Rights = rights_of g in
+      let R : GrantedTables = rights_of g in
       let far : ℕ = (rel s t r).remote in
       let cs : List ℕ = last_used rs c in
       let behind : ℕ = behind_filter s R far cs n in

@@ -9,7 +9,7 @@ use Rattle.hq_sql_tree.specs.Tree.{ExprTree, OrderTree, OrderTrees, OutTree, Joi
 use Rattle.hq_translation.specs.Fine.{Has}
 use Rattle.hq_translation.specs.Looks.{Look, ColumnName, own_look, is_used}
 use Rattle.hq_translation.specs.Names.{table_alias, fold_alias, value_name, key_name}
-use Rattle.hq_translation.specs.Rights.{Rights, rights_of}
+use Rattle.hq_translation.specs.GrantedTables.{GrantedTables, rights_of}
 use Rattle.hq_translation.specs.Sorts.{Sort, shown_sorts, own_sorts, used_by, used_sorts, last_used, sort_form, sort_place, sort_numbers, sort_joins, sorts_numbers, sorts_joins, orders, key_outputs, output_orders}
 use Rattle.hq_translation.proofs.Names.{same_text, used_left, used_right, key_names_differ}
 use Rattle.hq_translation.proofs.Scopes.{under_later}
@@ -75,7 +75,7 @@ module _ (s : Schema) (g : Grants) (t p : ℕ) (look : Look) where
       → Joined s g scope n (n + sorts_numbers (shown_sorts es (own_sorts cs)) s (rights_of g) t) (sorts_joins (shown_sorts es (own_sorts cs)) s (rights_of g) t p n) (λ final. EntriesPlain final es n)
   sorts_joined [] cs scope n f own lt bound shows = own_joined cs scope n
   sorts_joined (k ∷ ks) cs scope n f own lt bound shows =
-      let R : Rights = rights_of g in
+      let R : GrantedTables = rights_of g in
       let here : ℕ = sort_numbers k.through s R t k.column in
       let mid : ℕ = n + here in
       let rest : List Sort = shown_sorts ks (own_sorts cs) in

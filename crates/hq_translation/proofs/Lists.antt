@@ -18,7 +18,7 @@ use Rattle.hq_model.specs.declared.table.Column.{Column}
 use Rattle.hq_model.specs.declared.table.Table.{Table}
 use Rattle.hq_sql_tree.specs.Tree.{OutTree, PairTree, pairs_of, orders_of, JoinTree, PredTree}
 use Rattle.hq_sql_tree.specs.Meaning.{NamedRow, cell_named, Scope, with_alias, World, members, outputs, orders_cmp, same_values, distinct_on, rows_of, truth_at}
-use Rattle.hq_translation.specs.Rights.{rights_of}
+use Rattle.hq_translation.specs.GrantedTables.{rights_of}
 use Rattle.hq_translation.specs.Names.{fold_alias, join_alias, value_name}
 use Rattle.hq_translation.specs.Looks.{Look}
 use Rattle.hq_translation.specs.Conditions.{with_member, where_of}

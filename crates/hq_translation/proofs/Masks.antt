@@ -17,7 +17,7 @@ use Rattle.hq_model.specs.Truth.{truth, keeps}
 use Rattle.hq_model.specs.declared.table.Table.{Table}
 use Rattle.hq_sql_tree.specs.Tree.{JoinTree, PredTree}
 use Rattle.hq_sql_tree.specs.Meaning.{NamedRow, cell_named, Scope, with_alias, World, or_null_row, order_cmp, outputs, rows_of, kept, truth_at}
-use Rattle.hq_translation.specs.Rights.{rights_of}
+use Rattle.hq_translation.specs.GrantedTables.{rights_of}
 use Rattle.hq_translation.specs.Names.{table_alias, join_alias, value_name}
 use Rattle.hq_translation.specs.Looks.{Look, ColumnName, own_look, cell_at, is_used}
 use Rattle.hq_translation.specs.Conditions.{with_member, where_of}

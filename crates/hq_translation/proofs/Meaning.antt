@@ -22,7 +22,7 @@ use Rattle.hq_request_tree.specs.Resolve.{origin_table, origin_rows, shows_key, 
 use Rattle.hq_sql_tree.specs.Tree as tree
 use Rattle.hq_sql_tree.specs.Tree.{JoinTree, joins_of, pairs_of, PredTree}
 use Rattle.hq_sql_tree.specs.Meaning.{NamedRow, cell_named, Scope, nothing, with_alias, World, value, members, outputs, order_cmp, or_null_row, first_value, rows_of, kept, truth_at}
-use Rattle.hq_translation.specs.Rights.{rights_of}
+use Rattle.hq_translation.specs.GrantedTables.{rights_of}
 use Rattle.hq_translation.specs.Names.{table_alias, join_alias, value_name}
 use Rattle.hq_translation.specs.Looks.{Look, own_look, type_in}
 use Rattle.hq_translation.specs.Conditions.{joined_by_and}

@@ -16,7 +16,7 @@ use Rattle.hq_model.specs.Selected.{SortKey, sort_cell as shown_cell, sorts_cmp 
 use Rattle.hq_model.specs.declared.table.Table.{Table}
 use Rattle.hq_sql_tree.specs.Tree.{orders_of}
 use Rattle.hq_sql_tree.specs.Meaning.{NamedRow, cell_named, Scope, with_alias, World, outputs, order_cmp, orders_cmp}
-use Rattle.hq_translation.specs.Rights.{rights_of}
+use Rattle.hq_translation.specs.GrantedTables.{rights_of}
 use Rattle.hq_translation.specs.Names.{fold_alias, join_alias, value_name, key_name}
 use Rattle.hq_translation.specs.Looks.{Look, cell_at}
 use Rattle.hq_translation.specs.Predicates.{link}
