@@ -4,10 +4,10 @@ ghost use Rattle.hq_io.specs.Causes.{Rose};
 ghost use Rattle.hq_model.specs.Meta.{meta_view};
 ghost use Rattle.hq_command.specs.Ending.{NotDatabase, Silent};
 ghost use Rattle.hq_command_explain.specs.Explaining.{Explains, SilentButOfFiles, accepted, at_fault, explain_output, input_explained};
-
 ghost use Rattle.hq_schema.specs.Schema.{schema_view};
 ghost use Rattle.hq_schema_of_role.specs.RoleSchema.{role_schema};
 ghost use Rattle.hq_model.specs.Permission.{role_of};
+
 use hq_base::{Bytes, Memory, Txt};
 use hq_command::{Done, INPUT_LIMIT, Refusal, caller};
 use hq_engine::{Engine, Stated};
