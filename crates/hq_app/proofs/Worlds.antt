@@ -2,7 +2,6 @@
 use Rattle.std.proofs.Common.{◌≡◌, ℕ, List, Option, Some, None, IfSome, Result, Ok, Err, refl, ap, subst}
 use Rattle.hq_request_tree.specs.Request.{AskTree}
 use Rattle.hq_engine.specs.Asking.{Counts}
-use Rattle.hq_engine.specs.Engines.{engine_agree}
 use Rattle.hq_engine.specs.Laws.{RepliesAgree}
 use Rattle.hq_engine.specs.Replies.{reply_to}
 use Rattle.hq_engine.specs.declared.engine.Engine.{Engine}
@@ -16,7 +15,7 @@ use Rattle.hq_model.specs.declared.table.Table.{Table}
 use Rattle.hq_command.specs.Ending.{Outcome, Ends, Output}
 use Rattle.hq_command.specs.Answers.{Answers}
 use Rattle.hq_app.specs.Laws.{AnswersAlike, OutputsAgree}
-use Rattle.hq_command.specs.Output.{engine_output, reply_output, within_limit}
+use Rattle.hq_command.specs.Output.{reply_output, within_limit}
 use Rattle.hq_command.specs.declared.done.Done.TheVariants.{Answered}
 use Rattle.hq_command.specs.declared.refusal.Refusal.{Refusal}
 

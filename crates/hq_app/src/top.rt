@@ -291,7 +291,8 @@ pub fn answer_one<T: Tables, S: Source, K: Sink, E: Sink>(
         (record { asks = ⟦<SqlDb<T> as Database>⟧.asks db.new; last = ⟦<SqlDb<T> as Database>⟧.last db.new }) answer) }
 
     // Over each database that the session cannot tell apart from this one, the same answer is due.
-    ensures alike { (answer : Outcome) × (result ≡ status_of answer) × IfSome (S.left input.old) (λ left. AnswersAlike engine.now session.now (⟦<SqlDb<T> as Database>⟧.database db.old) left (K.written out.old) (K.written out.new)
+    ensures alike { (answer : Outcome) × (result ≡ status_of answer) × IfSome (S.left input.old) (λ left.
+        AnswersAlike engine.now session.now (⟦<SqlDb<T> as Database>⟧.database db.old) left (K.written out.old) (K.written out.new)
         (record { asks = ⟦<SqlDb<T> as Database>⟧.asks db.old; last = ⟦<SqlDb<T> as Database>⟧.last db.old })
         (record { asks = ⟦<SqlDb<T> as Database>⟧.asks db.new; last = ⟦<SqlDb<T> as Database>⟧.last db.new }) answer) }
 

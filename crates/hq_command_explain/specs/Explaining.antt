@@ -11,7 +11,7 @@ use Rattle.hq_request.specs.declared.refusal.RequestRefusal.{RequestRefusal}
 use Rattle.hq_request.specs.declared.refusal.RequestRefusal.TheVariants as request
 use Rattle.hq_session.specs.Sessions.{session_of}
 use Rattle.hq_session.specs.declared.header.Header.{Header}
-use Rattle.hq_model.specs.Meta.{MetaTree, meta_view}
+use Rattle.hq_model.specs.Meta.{MetaTree}
 use Rattle.hq_model.specs.declared.session.Session.{Session}
 use Rattle.hq_model.specs.declared.table.Table.{Table}
 use Rattle.hq_command.specs.Ending.{Outcome, Ends, Output}
