@@ -18,7 +18,8 @@ use Rattle.hq_command.specs.declared.reply.TheConstants.{INPUT_LIMIT}
 use Rattle.hq_command_confine.specs.Confining.{Confines, EndsBy, IsDueBehind, IsDueFor, IsSaid, without_line_end}
 
 -- what was written was due
-said_ends : (IsDue : Result Output Refusal → Type 0) (old new : Option (List ℕ)) (output : Output) (answer : Outcome) → IsDue (Ok output) → Ends old new (Ok output) answer → EndsBy IsDue old new answer
+said_ends : (IsDue : Result Output Refusal → Type 0) (old new : Option (List ℕ)) (output : Output) (answer : Outcome)
+    → IsDue (Ok output) → Ends old new (Ok output) answer → EndsBy IsDue old new answer
 said_ends IsDue old new output (Ok done) due h = (h.0, subst IsDue h.1 due, h.2, h.3)
 said_ends IsDue old new output (Err refusal.WriteFailed) due h = (h.0, subst IsDue h.1 due, h.2)
 said_ends IsDue old new output (Err refusal.ReadFailed) due h = tt

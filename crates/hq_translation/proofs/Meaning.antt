@@ -415,7 +415,8 @@ module _ (s : Schema) (tables : List Table) (d : List (List Row)) (g : Grants) w
           (λ scope row shows. first_gives u cs fs n (joined_by_and (key_members (table s u).columns (shown_look s (rights_of g) u cs n) columns key)) (shows_key columns key (seen_by s g d) u) bound x
           (λ e far l. looks_right (shown_look s (rights_of g) u cs n) columns (fields_used fs) e (shown s g d u far) l) scope
           (λ far narrow. key_means u (shown_look s (rights_of g) u cs n) columns key (with_first u cs fs n far (at_row s u n scope far)) far
-          (looks_left (shown_look s (rights_of g) u cs n) columns (fields_used fs) (with_first u cs fs n far (at_row s u n scope far)) (shown s g d u far) (first_looks u cs fs n bound x scope far narrow))))
+          (looks_left (shown_look s (rights_of g) u cs n) columns (fields_used fs) (with_first u cs fs n far (at_row s u n scope far))
+          (shown s g d u far) (first_looks u cs fs n bound x scope far narrow))))
       field_extends (aggregate o a ps) t p n lt bound few =
           let u : ℕ = origin_table o s t in
           let x = parts_extend ps o t p a (n + 1) (omega arith) (omega arith) few.0 few.1 in

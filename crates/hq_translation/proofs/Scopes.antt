@@ -81,7 +81,8 @@ column_kind (n ∷ columns) (suc c) d lt = rw (d.0 c) (column_kind columns c d.1
 abbrev pub with_table : Schema → List Table → (u n : ℕ) → Aliases → Aliases
 with_table s tables u n scope = (table_alias n, table_names tables (table s u).schema (table s u).name) ∷ scope
 
-pub knows_here : (s : Schema) (g : GrantedTables) (tables : List Table) (u n : ℕ) (scope : Aliases) → FineTable s g tables u → KnowsAll s (with_table s tables u n scope) u (own_look (table s u).columns n)
+pub knows_here : (s : Schema) (g : GrantedTables) (tables : List Table) (u n : ℕ) (scope : Aliases)
+    → FineTable s g tables u → KnowsAll s (with_table s tables u n scope) u (own_look (table s u).columns n)
 knows_here s g tables u n scope ok c has = rw (same_text (table_alias n), ok.names) (column_kind (table s u).columns c ok.differ has)
 
 pub grows_table : (n : ℕ) (names : Names) (scope : Aliases) → n < 2 ^ 64 → Grows n scope ((table_alias n, names) ∷ scope)

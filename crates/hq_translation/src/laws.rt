@@ -40,5 +40,6 @@ pub fn statement_is_typed()
 /// The law: the statement is well-formed for the catalog, where its fields are of the catalog and nested few enough, and a tree
 /// can hold its texts and numbers.
 pub fn statement_is_well_formed()
-    ensures { (fields : FieldTrees) (tables : Items Table) (meta : MetaTree) (rights : GrantedTables) (filters conditions chains : ℕ) → IsWellFormed fields tables meta rights filters conditions chains }
+    ensures { (fields : FieldTrees) (tables : Items Table) (meta : MetaTree) (rights : GrantedTables) (filters conditions chains : ℕ)
+        → IsWellFormed fields tables meta rights filters conditions chains }
 {}

@@ -73,7 +73,8 @@ module _ (s z : Schema) (n : Renumbering) (a : Access) (r : SchemaTree) (of_role
   taken_due_over g no_collected place at = refl
   taken_due_over g (collected key h below others) place at =
       then_over (taken_over n u) (map (keyed_taken_over n u)) (λ f. mapped (with_taken key f) (taken_due c place u others)) (λ f. mapped (with_taken key f) (taken_due d place (n.table u) others))
-      (known_due c place u h (is_empty below) >>= λ (k : KnownField). taken_by c place h k.0.origin) (known_due d place (n.table u) h (is_empty below) >>= λ (k : KnownField). taken_by d place h k.0.origin)
+      (known_due c place u h (is_empty below) >>= λ (k : KnownField). taken_by c place h k.0.origin)
+      (known_due d place (n.table u) h (is_empty below) >>= λ (k : KnownField). taken_by d place h k.0.origin)
       (known_over s z n a r of_role vars (taken_over n u) place (type.Aggregated g u) at u (n.table u) h (is_empty below)
       (λ (k : KnownField). taken_by c place h k.0.origin) (λ (k : KnownField). taken_by d place h k.0.origin) (one_taken place h g at))
       (λ f e. mapped_over (map (keyed_taken_over n u)) (map (keyed_taken_over n u)) (with_taken key f) (with_taken key (taken_over n u f))
