@@ -219,9 +219,10 @@ module _ (d : ℕ) (expr : Reader ExprTree) (expr_takes : Sound expr (OneExpr d)
       order_list_takes
       (λ os good. sound_end word.OrEmptyArray (tree.aggregate (tree.json_agg e (orders_of os)))
       (λ b x. Behind (suc (suc d)) head.JsonAgg
-      (expr_text e ++ (word_text word.OrderBy ++ (separated word.Comma (map order_text os) ++ b))) x)
-      (ap (λ ts. word_text word.JsonAgg ++ (expr_text e ++ (word_text word.OrderBy ++ (separated word.Comma ts ++ word_text word.OrEmptyArray)))) (sym (order_texts_of os)),
-      (at_least_one d os good, fits, fits_orders d os (all_of (GoodOrder d) os good))))))
+      (expr_text e ++ (word_text word.OrderBy ++ (separated word.Comma (map order_text os) ++ b))) x) (
+        ap (λ ts. word_text word.JsonAgg ++ (expr_text e ++ (word_text word.OrderBy ++ (separated word.Comma ts ++ word_text word.OrEmptyArray)))) (sym (order_texts_of os)),
+        (at_least_one d os good, fits, fits_orders d os (all_of (GoodOrder d) os good)),
+      ))))
 
   inside_takes : (ordered : Reader ExprTree) → Sound ordered (Behind (suc d) head.JsonAgg) → (h : Head) → Sound (inside_with expr ordered h) (Behind (suc d) h)
   unfolding inside_with
