@@ -1,4 +1,4 @@
--- What a scope stands for.
+-- The schema that a catalog and its metadata describe.
 use Rattle.hq_model.specs.Meta.{meta_view}
 use Rattle.hq_model.specs.Schema.{Schema, schema_of}
 use Rattle.hq_model.specs.declared.scope.Described.{Described}
