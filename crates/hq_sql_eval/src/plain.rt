@@ -104,7 +104,7 @@ fn constants<'d>(alloc: Global, exprs: &'d [Expr]) -> Result<Option<Vec<Cell<'d>
 fn is_light(test: Test) -> bool {
     match test {
         Test::Compare(_) | Test::IsNull => true,
-        Test::Among | Test::Like { .. } => false,
+        _ => false,
     }
 }
 
