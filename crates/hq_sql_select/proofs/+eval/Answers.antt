@@ -352,9 +352,9 @@ scans::scan_from-loop-turn-preserved t c =
     let at : row_in c.args.source c.position_at-position.result ≡ get_or rs i [] = ap (row_in c.args.source) c.position_at-position.ensures ∙ sym (at_place c.args.source ps i within) in
     record {
       from = omega (arith, c.loop-turn.invariant.from);
-      places = ap (λ l. before ++ map (names_at c.args.source a js w n) l) c.in_ok-add_places.ensures
+      places = ap (λ l. before ++ map (names_at c.args.source a js w n) l) c.in_ok-add_row.ensures.1.0
           ∙ scan_step js w n a keeps before c.args.source rs i c.position_at-position.result (row_view c.row_at.result)
-          c.loop-turn.places.items c.in_ok-lists.lists.items lt at c.row_at.ensures c.in_ok-lists.ensures c.loop-turn.invariant.places;
+          c.loop-turn.places.items c.in_ok-add_row.ensures.0 lt at c.row_at.ensures c.in_ok-add_row.ensures.1.1 c.loop-turn.invariant.places;
     }
 
 pub scans::scan_from-returns-then-has_enough-clause-places : goal.scans::scan_from-returns-then-has_enough-clause-places
@@ -372,9 +372,9 @@ scans::scan_from-returns-then-has_enough-clause-places t c =
     let within : i < length ps = omega (arith, c.loop-turn-test.true, c.number_of-end.ensures) in
     let lt : i < length rs = omega (arith, within, long) in
     let at : row_in c.args.source c.position_at-position.result ≡ get_or rs i [] = ap (row_in c.args.source) c.position_at-position.ensures ∙ sym (at_place c.args.source ps i within) in
-    ap (λ l. before ++ map (names_at c.args.source a js w n) l) c.in_ok-add_places.ensures
+    ap (λ l. before ++ map (names_at c.args.source a js w n) l) c.in_ok-add_row.ensures.1.0
     ∙ scan_step js w n a keeps before c.args.source rs i c.position_at-position.result (row_view c.row_at.result) c.loop-turn.places.items
-    c.in_ok-lists.lists.items lt at c.row_at.ensures c.in_ok-lists.ensures c.loop-turn.invariant.places
+    c.in_ok-add_row.ensures.0 lt at c.row_at.ensures c.in_ok-add_row.ensures.1.1 c.loop-turn.invariant.places
 
 pub scans::scan_from-returns-clause-places : goal.scans::scan_from-returns-clause-places
 scans::scan_from-returns-clause-places t c =
