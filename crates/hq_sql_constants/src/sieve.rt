@@ -4,7 +4,7 @@ ghost use Rattle.hq_sql_conjuncts.specs.Conjuncts.{all_kept, lent_views};
 ghost use Rattle.hq_sql_conjuncts.specs.Split.{kept_one};
 ghost use Rattle.hq_sql_access.specs.View.{row_in};
 ghost use Rattle.hq_sql_tree.specs.Meaning.{kept};
-ghost use Rattle.hq_sql_tree.specs.Tree.{joins_of};
+ghost use Rattle.hq_sql_tree.specs.Tree.{joins_of, no_join};
 ghost use Rattle.hq_sql_tree.specs.View.{filter_view, join_view, pred_view};
 ghost use Rattle.hq_sql_constants.specs.Sieves.{IsSieve, SievesOver, Tells, all_hold};
 
@@ -141,6 +141,12 @@ fn all_hold(alloc: Global, tests: &[Vec<ColumnTest<'_>>], row: &[Val]) -> Result
     Ok(true)
 }
 
+fn has_no_join(joins: &[Join]) -> bool
+    ensures { result ≡ true → joins_of (map join_view joins.now) ≡ no_join }
+{
+    joins.is_empty()
+}
+
 /// What the tests tell of the row at a place of a source.
 pub fn verdict_at<'s, 'd>(
     alloc: Global,
@@ -163,7 +169,7 @@ pub fn verdict_at<'s, 'd>(
     if !all_hold(alloc, &sieve.tests, rows.row(position))? {
         return Ok(Verdict::Dropped);
     }
-    if sieve.whole && joins.is_empty() {
+    if sieve.whole && has_no_join(joins) {
         return Ok(Verdict::Kept);
     }
     Ok(Verdict::Open)
