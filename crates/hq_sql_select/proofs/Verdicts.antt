@@ -29,9 +29,9 @@ pub adds_kept : (js : JoinTrees) (f : Option Pred) (world : Pinned) (n : Names) 
 adds_kept js f world n position places more v alone keeps grown =
     let w = world_of world in
     let all : n ∷ [] ≡ filter (kept (filter_view f) w) (joined no_join w n) = sym (ap (λ b. cond b (n ∷ []) []) keeps) in
-    (v ∷ [], (grown, ap (λ k. beside k w n (joined_view v) ∷ []) alone ∙ all ∙ ap (λ k. filter (kept (filter_view f) w) (joined k w n)) (sym alone)))
+    (v ∷ [], grown, ap (λ k. beside k w n (joined_view v) ∷ []) alone ∙ all ∙ ap (λ k. filter (kept (filter_view f) w) (joined k w n)) (sym alone))
 
 -- none of one of which it keeps nothing
 pub adds_none : (js : JoinTrees) (f : Option Pred) (world : Pinned) (n : Names) (position : ℕ) (places : List Place)
     → filter (kept (filter_view f) (world_of world)) (joined js (world_of world) n) ≡ [] → Adds js f world n position places places
-adds_none js f world n position places none = ([], (sym (append-nil places), sym none))
+adds_none js f world n position places none = ([], sym (append-nil places), sym none)

@@ -87,9 +87,10 @@ pub fn scan_from<'s, 'd>(
     let mut places = Vec::new(alloc);
     let end = number_of(positions);
     let sieve = sieve_of(alloc, source, alias, joins, filter, end - from)?;
+    let tests = &sieve;
     for turn in from..end {
         let position = position_at(positions, turn);
-        let verdict = verdict_at(alloc, source, alias, joins, filter, &sieve, position)?;
+        let verdict = verdict_at(alloc, source, alias, joins, filter, tests, position)?;
         let at = Scope::Bound {
             alias,
             row: row_at(source, position),
