@@ -2,10 +2,11 @@
 use Rattle.std.specs.Prelude.{◌≡◌, ◌≢◌, ◌⊎◌, ◌||◌, ℕ, Bool, true, false, Option, Some, None, Ok, Err, IfErr, IfSome}
 use Rattle.hq_io.specs.Causes.{Rose}
 use Rattle.hq_cli.specs.declared.command.Command.{Command}
-use Rattle.hq_cli.specs.declared.command.Command.TheVariants.{Query, Sql, Explain, Confine, Check, Serve, Live, Gen, Show}
-use Rattle.hq_command.specs.Ending.{Answer, Ends, NotDatabase, status_of, told_line}
+use Rattle.hq_cli.specs.declared.command.Command.TheVariants.{Query, Sql, Explain, Confine, Copy, Check, Serve, Live, Gen, Show}
+use Rattle.hq_command.specs.Ending.{Answer, Ends, NotDatabase, Silent, status_of, told_line}
 use Rattle.hq_command_explain.specs.Explaining.{Explains, explain_output}
 use Rattle.hq_command_confine.specs.Confining.{Confines}
+use Rattle.hq_command_copy.specs.Copying.{copy_output}
 use Rattle.hq_command.specs.Generating.{GenEnds}
 use Rattle.hq_command_paged.specs.Disks.{DiskFailed, paged_output}
 use Rattle.hq_command.specs.Output.{query_output, sql_output}
@@ -53,8 +54,9 @@ uses_disk (Some (Serve dir port connections secret unauthorized paged)) = paged
 uses_disk command = false
 
 -- The answer is the due one, as far as it says what was due: of a query, of `sql`, `explain` and `confine` over told files and a told input,
--- of a check over told files, of `serve` and `live` over what the directory holds, of `gen`, and of a page. With tables on a disk it is the same where
--- this tells its bytes. A check and a page tell no fault. Words that ask for no command are bad, unless memory is wanted.
+-- of a copy and a check over told files, of `serve` and `live` over what the directory holds, of `gen`, and of a page. With tables on a disk it is the same where
+-- this tells its bytes. A copy, a check and a page tell no fault, and where no part of a copy is
+-- written, nothing is. Words that ask for no command are bad, unless memory is wanted.
 abbrev pub Runs : {L T : Type 0} → Option Command → (before after : Outside L T) → Answer → Type 0
 Runs None before after answer = (answer ≡ Err BadWords) ⊎ (answer ≡ Err Memory)
 Runs (Some (Query dir headers true)) before after answer =
@@ -68,6 +70,9 @@ Runs (Some (Explain dir headers)) before after answer =
     IfSome before.files.told (λ files. IfSome before.input.told (λ text. Explains before.out.told after.out.told (explain_output dir headers files text) answer))
 Runs (Some (Confine dir headers)) before after answer =
     IfSome before.files.told (λ files. IfSome before.input.told (λ text. Confines dir headers files text before.out.told after.out.told answer))
+Runs (Some (Copy dir part headers)) before after answer =
+    IfSome before.files.told (λ files. Ends before.out.told after.out.told (copy_output dir part headers files) answer) × (answer ≢ Ok Faulty)
+    × Silent before.out.told after.out.told answer
 Runs (Some (Check dir)) before after answer =
     IfSome before.files.told (λ files. Ends before.out.told after.out.told (check_output dir files) answer) × (answer ≢ Ok Faulty)
 Runs (Some (Serve dir port connections secret unauthorized true)) before after answer =
@@ -111,7 +116,7 @@ ThenHall loads before after =
     loads × (after.hall.links ≡ before.hall.links) × (after.hall.accepted ≡ before.hall.accepted) ⊎ Rose before.hall.faults after.hall.faults
 
 -- Why a read failed: a query loads files, and puts tables on the disk where it keeps them there, before it reads its input; `serve`
--- does so before it opens its door, and `live` before its hall; a check loads files alone. `gen` and a page read nothing.
+-- does so before it opens its door, and `live` before its hall; a copy and a check load files alone. `gen` and a page read nothing.
 abbrev pub ReadCause : {L T : Type 0} → Option Command → (before after : Outside L T) → Type 0
 ReadCause None before after = ⊥
 ReadCause (Some (Query dir headers true)) before after = ThenInput (FilesOrDiskRose before after) before after
@@ -119,6 +124,7 @@ ReadCause (Some (Query dir headers false)) before after = ThenInput (FilesRose b
 ReadCause (Some (Sql dir headers)) before after = ThenInput (FilesRose before after) before after
 ReadCause (Some (Explain dir headers)) before after = ThenInput (FilesRose before after) before after
 ReadCause (Some (Confine dir headers)) before after = ThenInput (FilesRose before after) before after
+ReadCause (Some (Copy dir part headers)) before after = FilesRose before after
 ReadCause (Some (Check dir)) before after = FilesRose before after
 ReadCause (Some (Serve dir port connections secret unauthorized true)) before after = ThenDoor (FilesOrDiskRose before after) before after
 ReadCause (Some (Serve dir port connections secret unauthorized false)) before after = ThenDoor (FilesRose before after) before after

@@ -14,6 +14,7 @@ use hq_base::Txt;
 use hq_cli::Command;
 use hq_command::{Done, Refusal, check, generate_and_answer, query, reply_to, show, sql, tell};
 use hq_command_confine::confine;
+use hq_command_copy::copy;
 use hq_command_explain::explain;
 use hq_command_paged::{query_on_disk, serve_on_disk};
 use hq_command_serve::serve;
@@ -190,6 +191,11 @@ fn obey<F: Files, D: Door, X: Disk, S: Source, K: Sink, E: Sink, H: Hall>(
             let answer = confine(alloc, &dir, &headers, files, input, out);
             Ended { answer, world }
         }
+        Command::Copy { dir, part, headers } => {
+            let (files, out) = (&mut world.files, &mut world.out);
+            let answer = copy(alloc, &dir, &part, &headers, files, out);
+            Ended { answer, world }
+        }
         Command::Check { dir } => {
             let answer = check(alloc, &dir, &mut world.files, &mut world.out);
             Ended { answer, world }
@@ -323,7 +329,8 @@ pub fn answer_one<T: Tables, S: Source, K: Sink, E: Sink>(
 /// The program. `query DIR [HEADER]...` answers the request on the standard input over the directory, for the session of the
 /// headers; `sql DIR [HEADER]...` writes the text of SQL that is asked for it and a line end, or `none` and a line end where
 /// none is. `explain DIR [HEADER]...` tells a person of it, or of the directory where that is refused. `confine DIR [HEADER]...` writes of
-/// a text of SQL on the standard input `yes`, `no: X2 t1` with the rule and the alias, `not sql` or `not typed`. `check DIR` loads the
+/// a text of SQL on the standard input `yes`, `no: X2 t1` with the rule and the alias, `not sql` or `not typed`. `copy DIR PART [HEADER]...`
+/// writes a part of the redacted copy of the directory: its catalog, its metadata or the file of a table. `check DIR` loads the
 /// directory and writes `ok: T tables, R roles, N rows`. `serve DIR --port P --connections N`
 /// serves so many connections of HTTP at this machine's port, one after the other, and writes a line after each. With `--paged` these
 /// two keep the tables on the disk, under the name `hq.pages` in the directory. `live DIR --port P --connections N` talks of live

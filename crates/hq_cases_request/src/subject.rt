@@ -22,6 +22,7 @@ pub enum About {
     Runs,
     Explain,
     Confine,
+    Copy,
     Serving,
     Live,
     Statements,
@@ -30,7 +31,7 @@ pub enum About {
 
 impl About {
     /// Each subject, in the order of its line.
-    pub const ALL: [About; 22] = [
+    pub const ALL: [About; 23] = [
         About::Worked,
         About::Blog,
         About::Shop,
@@ -49,6 +50,7 @@ impl About {
         About::Runs,
         About::Explain,
         About::Confine,
+        About::Copy,
         About::Serving,
         About::Live,
         About::Statements,
@@ -77,6 +79,7 @@ impl Subject for About {
             About::Runs => "runs",
             About::Explain => "explain",
             About::Confine => "confine",
+            About::Copy => "copy",
             About::Serving => "serving",
             About::Live => "live",
             About::Statements => "statements",

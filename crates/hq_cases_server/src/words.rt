@@ -34,6 +34,7 @@ fn push_command(command: &Command, out: &mut Words) {
         Command::Sql { dir, headers } => push_request("sql ", dir, headers, out),
         Command::Explain { dir, headers } => push_request("explain ", dir, headers, out),
         Command::Confine { dir, headers } => push_request("confine ", dir, headers, out),
+        Command::Copy { dir, part, headers } => push_copy(dir, part, headers, out),
         Command::Check { dir } => out.push_pair("check ", dir.as_str()),
         Command::Gen { n } => {
             out.push("gen ");
@@ -72,6 +73,16 @@ fn push_command(command: &Command, out: &mut Words) {
 
 fn push_request(word: &str, dir: &Txt, headers: &Headers, out: &mut Words) {
     out.push_pair(word, dir.as_str());
+    push_headers(headers, out);
+}
+
+fn push_copy(dir: &Txt, part: &Txt, headers: &Headers, out: &mut Words) {
+    out.push_pair("copy ", dir.as_str());
+    out.push_pair(" ", part.as_str());
+    push_headers(headers, out);
+}
+
+fn push_headers(headers: &Headers, out: &mut Words) {
     for header in headers.as_slice() {
         out.push_pair(" ", header.name.as_str());
         out.push_pair("=", header.value.as_str());

@@ -6,7 +6,7 @@ use Rattle.std.specs.Prelude.{[], ◌∷◌, Option, Some, None, IfSome, Result,
 use Rattle.clap.specs.Words.{Row, Text, first_of}
 use Rattle.hq_base.specs.Due.{Gives}
 use Rattle.hq_cli.specs.declared.command.Command.{Command}
-use Rattle.hq_cli.specs.declared.command.Command.TheVariants.{Query, Sql, Explain, Confine, Check, Gen, Show}
+use Rattle.hq_cli.specs.declared.command.Command.TheVariants.{Query, Sql, Explain, Confine, Copy, Check, Gen, Show}
 use Rattle.hq_cli.specs.declared.refusal.WordsRefusal.{WordsRefusal}
 use Rattle.hq_cli.specs.declared.refusal.WordsRefusal.TheVariants.{BadWords, Memory}
 use Rattle.hq_cli.specs.Grammar.{query_faults, query_rows, check_faults, check_rows, serve_faults, serve_rows, live_faults, live_rows, gen_faults, gen_rows}
@@ -51,6 +51,9 @@ few_live rows =
     few_then _ (dir_in rows) (λ d. few_then _ (number_in (codes "port") rows) (λ p. few_then _ (number_in (codes "connections") rows) (λ n.
     few_then _ (filled (first_of (codes "admin-secret") rows)) (λ s. few_map _ (filled (first_of (codes "unauthorized-role") rows)) (λ u. tt {0})))))
 
+few_copy : (rows : List Row) → Few (copy_in rows)
+few_copy rows = few_then _ (request_in rows) (λ r. few_map (λ p. Copy r.0 p r.1) (part_in rows) (λ p. tt {0}))
+
 few_none : (b : Bool) (o : Option Command) → Few o → Few (cond b o None)
 few_none b o h = few_cond b o None h none_few
 
@@ -62,6 +65,7 @@ few_page name (word ∷ words) = none_few
 few_named : (name : Text) (words : List Text) → Few (command_named name words)
 few_named name words =
     let query = few_none (are_taken (query_faults words)) (query_in (query_rows words)) (few_map (λ r. Query r.0 r.1 (is_paged_in (query_rows words))) (request_in (query_rows words)) (λ r. tt {0})) in
+    let copy = few_none (are_taken (copy_faults words)) (copy_in (copy_rows words)) (few_copy (copy_rows words)) in
     let check = few_none (are_taken (check_faults words)) (option_map Check (dir_in (check_rows words))) (few_map Check (dir_in (check_rows words)) (λ d. tt {0})) in
     let serve = few_none (are_taken (serve_faults words)) (serve_in (serve_rows words)) (few_serve (serve_rows words)) in
     let live = few_none (are_taken (live_faults words)) (live_in (live_rows words)) (few_live (live_rows words)) in
@@ -70,10 +74,11 @@ few_named name words =
     few_cond (bytes_eq name (codes "sql")) _ _ (few_map (λ r. Sql r.0 r.1) (request_of words) (λ r. tt {0})) (
     few_cond (bytes_eq name (codes "explain")) _ _ (few_map (λ r. Explain r.0 r.1) (request_of words) (λ r. tt {0})) (
     few_cond (bytes_eq name (codes "confine")) _ _ (few_map (λ r. Confine r.0 r.1) (request_of words) (λ r. tt {0})) (
+    few_cond (bytes_eq name (codes "copy")) _ _ copy (
     few_cond (bytes_eq name (codes "check")) _ _ check (
     few_cond (bytes_eq name (codes "serve")) _ _ serve (
     few_cond (bytes_eq name (codes "live")) _ _ live (
-    few_cond (bytes_eq name (codes "gen")) _ _ gen (few_page name words))))))))
+    few_cond (bytes_eq name (codes "gen")) _ _ gen (few_page name words)))))))))
 
 -- those of the command that words ask for
 pub few_asked : (words : List Text) → Few (command_of words)

@@ -7,8 +7,8 @@ use Rattle.clap.specs.Words.{Kinds, Row, Text, first_of, all_of, one_of}
 use Rattle.hq_session.specs.Fields.{header_in}
 use Rattle.hq_session.specs.declared.header.Header.{Header}
 use Rattle.hq_cli.specs.declared.command.Command.{Command}
-use Rattle.hq_cli.specs.declared.command.Command.TheVariants.{Query, Sql, Explain, Confine, Check, Serve, Live, Gen, Show}
-use Rattle.hq_cli.specs.Grammar.{request_faults, request_rows, query_faults, query_rows, check_faults, check_rows, serve_faults, serve_rows, live_faults, live_rows, gen_faults, gen_rows}
+use Rattle.hq_cli.specs.declared.command.Command.TheVariants.{Query, Sql, Explain, Confine, Copy, Check, Serve, Live, Gen, Show}
+use Rattle.hq_cli.specs.Grammar.{request_faults, request_rows, query_faults, query_rows, copy_faults, copy_rows, check_faults, check_rows, serve_faults, serve_rows, live_faults, live_rows, gen_faults, gen_rows}
 use Rattle.hq_cli.specs.Pages.{page_named}
 
 -- the words are in the grammar
@@ -23,6 +23,9 @@ dir_in rows = first_of (codes "dir") rows
 
 abbrev pub header_words_in : List Row → List Text
 header_words_in rows = unwrap_or (all_of (codes "headers") rows) []
+
+abbrev pub part_in : List Row → Option Text
+part_in rows = first_of (codes "part") rows
 
 -- the number of an option
 abbrev pub number_in : (id : Text) → List Row → Option ℕ
@@ -69,6 +72,16 @@ query_in rows = option_map (λ r. Query r.0 r.1 (is_paged_in rows)) (request_in 
 
 abbrev pub query_of : List Text → Option Command
 query_of words = cond (are_taken (query_faults words)) (query_in (query_rows words)) None
+
+-- a copy's part of a directory, for the session of the headers
+abbrev pub copy_with : (request : Option (Text × List Header)) → (part : Option Text) → Option Command
+copy_with request part = option_and_then (λ r. option_map (λ p. Copy r.0 p r.1) part) request
+
+abbrev pub copy_in : List Row → Option Command
+copy_in rows = copy_with (request_in rows) (part_in rows)
+
+abbrev pub copy_of : List Text → Option Command
+copy_of words = cond (are_taken (copy_faults words)) (copy_in (copy_rows words)) None
 
 abbrev pub check_of : List Text → Option Command
 check_of words = cond (are_taken (check_faults words)) (option_map Check (dir_in (check_rows words))) None
@@ -121,10 +134,11 @@ command_named name words =
     cond (bytes_eq name (codes "sql")) (option_map (λ r. Sql r.0 r.1) (request_of words)) (
     cond (bytes_eq name (codes "explain")) (option_map (λ r. Explain r.0 r.1) (request_of words)) (
     cond (bytes_eq name (codes "confine")) (option_map (λ r. Confine r.0 r.1) (request_of words)) (
+    cond (bytes_eq name (codes "copy")) (copy_of words) (
     cond (bytes_eq name (codes "check")) (check_of words) (
     cond (bytes_eq name (codes "serve")) (serve_of words) (
     cond (bytes_eq name (codes "live")) (live_of words) (
-    cond (bytes_eq name (codes "gen")) (gen_of words) (page_of name words))))))))
+    cond (bytes_eq name (codes "gen")) (gen_of words) (page_of name words)))))))))
 
 -- the command that words ask for
 abbrev pub command_of : List Text → Option Command

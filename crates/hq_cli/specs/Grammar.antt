@@ -10,6 +10,10 @@ use Rattle.clap.specs.declared.builder.value_parser.ValueParser.TheVariants as v
 abbrev pub dir_rule : Rule
 dir_rule = record (new_rule (codes "dir")) { required = true }
 
+-- PART
+abbrev pub part_rule : Rule
+part_rule = record (new_rule (codes "part")) { required = true }
+
 -- [HEADER]...
 abbrev pub headers_rule : Rule
 headers_rule = record (new_rule (codes "headers")) { range = Some (record { start_inclusive = 0; end_inclusive = usize_max }); action = Some Append }
@@ -52,6 +56,10 @@ request_app = with_rule (with_rule (bare_app (codes "request")) dir_rule) header
 abbrev pub query_app : App
 query_app = with_rule request_app paged_rule
 
+-- copy DIR PART [HEADER]...
+abbrev pub copy_app : App
+copy_app = with_rule (with_rule (with_rule (bare_app (codes "copy")) dir_rule) part_rule) headers_rule
+
 -- check DIR
 abbrev pub check_app : App
 check_app = with_rule (bare_app (codes "check")) dir_rule
@@ -80,6 +88,12 @@ query_faults words = fault_of query_app words
 
 unfoldable pub query_rows : List Text → List Row
 query_rows words = matches_of query_app words
+
+unfoldable pub copy_faults : List Text → Kinds
+copy_faults words = fault_of copy_app words
+
+unfoldable pub copy_rows : List Text → List Row
+copy_rows words = matches_of copy_app words
 
 unfoldable pub check_faults : List Text → Kinds
 check_faults words = fault_of check_app words

@@ -1,6 +1,6 @@
 ghost use Rattle.std.specs.Prelude.{◌≡◌, IfOk, false};
 ghost use Rattle.clap.specs.Words.{app_of, rule_of};
-ghost use Rattle.hq_cli.specs.Grammar.{authors_rule, bare_app, check_app, connections_rule, dir_rule, gen_app, headers_rule, paged_rule, port_rule, live_app, query_app, request_app, secret_rule, serve_app, unauthorized_rule};
+ghost use Rattle.hq_cli.specs.Grammar.{authors_rule, bare_app, check_app, connections_rule, copy_app, dir_rule, gen_app, headers_rule, paged_rule, part_rule, port_rule, live_app, query_app, request_app, secret_rule, serve_app, unauthorized_rule};
 
 use clap::{Arg, ArgAction, Command, value_parser};
 use std::alloc::{AllocError, Global};
@@ -11,6 +11,14 @@ fn dir_arg<'a>(alloc: Global) -> Arg<'a>
     ensures local { result.global ≡ false }
 {
     Arg::new(alloc, "dir").required(true)
+}
+
+// PART
+fn part_arg<'a>(alloc: Global) -> Arg<'a>
+    ensures rule { rule_of result ≡ part_rule }
+    ensures local { result.global ≡ false }
+{
+    Arg::new(alloc, "part").required(true)
 }
 
 // [HEADER]...
@@ -105,6 +113,16 @@ pub fn query_command<'a>(alloc: Global) -> Result<Command<'a>, AllocError>
     ensures { IfOk result (λ c. app_of c ≡ query_app) }
 {
     request_command(alloc)?.arg(paged_arg(alloc))
+}
+
+/// DIR PART [HEADER]...
+pub fn copy_command<'a>(alloc: Global) -> Result<Command<'a>, AllocError>
+    ensures { IfOk result (λ c. app_of c ≡ copy_app) }
+{
+    bare_command(alloc, "copy")
+        .arg(dir_arg(alloc))?
+        .arg(part_arg(alloc))?
+        .arg(headers_arg(alloc))
 }
 
 /// DIR

@@ -1,10 +1,12 @@
 ghost use Rattle.std.specs.Prelude.{◌≡◌, option_map, ok_or, IfOk};
 ghost use Rattle.clap.specs.Words.{found_of, rows_of};
 ghost use Rattle.hq_base.specs.Due.{Gives};
-ghost use Rattle.hq_cli.specs.Asked.{HasFewAuthors, check_of, command_named, command_of, gen_in, gen_of, gen_with, page_of, query_in, query_of, request_in, request_of, serve_in, serve_of};
+ghost use Rattle.hq_cli.specs.Asked.{HasFewAuthors, check_of, command_named, command_of, copy_in, copy_of, gen_in, gen_of, gen_with, page_of, query_in, query_of, request_in, request_of, serve_in, serve_of};
 
 use crate::living::live;
-use crate::parse::{check_matches, gen_matches, query_matches, request_matches, serve_matches};
+use crate::parse::{
+    check_matches, copy_matches, gen_matches, query_matches, request_matches, serve_matches,
+};
 use crate::values::{
     authors_of, connections_of, filled, given_headers, is_paged, port_of, text_of,
 };
@@ -36,6 +38,12 @@ pub enum Command {
     /// To say whether a statement can show more than the caller of the headers may see.
     Confine {
         dir: Txt,
+        headers: Headers,
+    },
+    /// To write a part of the redacted copy of a directory, for the session of the headers.
+    Copy {
+        dir: Txt,
+        part: Txt,
         headers: Headers,
     },
     /// To check a directory.
@@ -108,6 +116,27 @@ fn query(alloc: Global, words: &[Txt]) -> Result<Command, WordsRefusal>
 {
     match query_matches(alloc, words) {
         Ok(matches) => query_from(alloc, &matches),
+        Err(refusal) => Err(refusal),
+    }
+}
+
+// The part of a copy that is asked for, as the matches say.
+fn copy_from(alloc: Global, matches: &ArgMatches<'_>) -> Result<Command, WordsRefusal>
+    ensures { Gives (λ command. command) WordsRefusal.Memory (ok_or (copy_in (rows_of (found_of matches.now))) WordsRefusal.BadWords) result }
+{
+    let (dir, headers) = request_from(alloc, matches)?;
+    let Some(part) = text_of(alloc, matches, "part")? else {
+        return Err(WordsRefusal::Memory);
+    };
+    Ok(Command::Copy { dir, part, headers })
+}
+
+// What the words behind `copy` ask.
+fn copy(alloc: Global, words: &[Txt]) -> Result<Command, WordsRefusal>
+    ensures { Gives (λ command. command) WordsRefusal.Memory (ok_or (copy_of words.now) WordsRefusal.BadWords) result }
+{
+    match copy_matches(alloc, words) {
+        Ok(matches) => copy_from(alloc, &matches),
         Err(refusal) => Err(refusal),
     }
 }
@@ -218,6 +247,7 @@ fn command_named(alloc: Global, name: &str, words: &[Txt]) -> Result<Command, Wo
             let (dir, headers) = request(alloc, words)?;
             Ok(Command::Confine { dir, headers })
         }
+        "copy" => copy(alloc, words),
         "check" => check(alloc, words),
         "serve" => serve(alloc, words),
         "live" => live(alloc, words),

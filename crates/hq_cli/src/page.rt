@@ -16,6 +16,7 @@ hq query DIR [HEADER]... [--paged]    answers the request on the standard input 
 hq sql DIR [HEADER]...      writes the text of SQL that query would ask
 hq explain DIR [HEADER]...  tells in words what is wrong with the request or the directory, and where, or what the request asks
 hq confine DIR [HEADER]...  says whether the SQL on the standard input can show more than the caller may see, and where
+hq copy DIR PART [HEADER]...    writes a part of a copy that holds what the caller may see and nothing else: catalog, metadata or SCHEMA.TABLE
 hq check DIR                reads the directory, and writes what it holds
 hq serve DIR --port P --connections N [--admin-secret S] [--unauthorized-role R] [--paged]    serves N connections of HTTP at 127.0.0.1
 hq live DIR --port P --connections N [--admin-secret S] [--unauthorized-role R]    talks of live queries over N WebSockets at 127.0.0.1
@@ -27,7 +28,7 @@ A HEADER is one word, as \"X-Hasura-Role: user\"; without a role the caller is a
 With --paged the tables are kept in the file hq.pages of the directory instead of in memory.
 
 Status  0  done
-        1  the request has a fault, which the reply tells, or confine does not say yes
+        1  the request has a fault, which the reply tells, or confine does not say yes, or there is no such copy
         2  bad words
         3  a file of the directory is absent, too large or refused
         4  a read failed, or the port could not be opened

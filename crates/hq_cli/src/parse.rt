@@ -1,11 +1,12 @@
 ghost use Rattle.std.specs.Prelude.{◌≡◌, true};
 ghost use Rattle.clap.specs.Words.{app_of, fault_of, is_simple_and_free, matches_of};
-ghost use Rattle.hq_cli.specs.Grammar.{check_faults, check_rows, gen_faults, gen_rows, live_faults, live_rows, query_faults, query_rows, request_faults, request_rows, serve_faults, serve_rows};
+ghost use Rattle.hq_cli.specs.Grammar.{check_faults, check_rows, copy_faults, copy_rows, gen_faults, gen_rows, live_faults, live_rows, query_faults, query_rows, request_faults, request_rows, serve_faults, serve_rows};
 ghost use Rattle.hq_cli.specs.Parsing.{Parses};
 
 use crate::WordsRefusal;
 use crate::arguments::{
-    check_command, gen_command, live_command, query_command, request_command, serve_command,
+    check_command, copy_command, gen_command, live_command, query_command, request_command,
+    serve_command,
 };
 use clap::error::ErrorKind;
 use clap::{ArgMatches, Command};
@@ -41,6 +42,16 @@ pub fn query_matches<'a>(alloc: Global, words: &'a [Txt]) -> Result<ArgMatches<'
     ensures { Parses (query_faults words.entry.now) (query_rows words.entry.now) result }
 {
     let Ok(command) = query_command(alloc) else {
+        return Err(WordsRefusal::Memory);
+    };
+    parse(command, words)
+}
+
+/// What the words behind `copy` say.
+pub fn copy_matches<'a>(alloc: Global, words: &'a [Txt]) -> Result<ArgMatches<'a>, WordsRefusal>
+    ensures { Parses (copy_faults words.entry.now) (copy_rows words.entry.now) result }
+{
+    let Ok(command) = copy_command(alloc) else {
         return Err(WordsRefusal::Memory);
     };
     parse(command, words)

@@ -172,3 +172,4 @@ never_fails refusal.WriteFailed h = tt
 never_fails (refusal.Database b a) h = absurd (omega (arith, h.2))
 never_fails refusal.Memory h = tt
 never_fails refusal.InputTooLong h = tt
+never_fails (refusal.NotCopied cause) h = tt

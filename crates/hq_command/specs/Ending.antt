@@ -26,6 +26,7 @@ refusal_status refusal.WriteFailed = 5
 refusal_status (refusal.Database before after) = 6
 refusal_status refusal.Memory = 7
 refusal_status refusal.InputTooLong = 8
+refusal_status (refusal.NotCopied cause) = 1
 
 abbrev pub done_status : Done → ℕ
 done_status Answered = 0

@@ -4,7 +4,7 @@ use Rattle.std.specs.List.{concat}
 use Rattle.std.specs.Fmt.{decimal}
 use Rattle.hq_load.specs.Line.{front_text, phrase_text, spaced}
 use Rattle.hq_load.specs.declared.phrase.Phrase.{Phrase}
-use Rattle.hq_load.specs.declared.phrase.Phrase.TheVariants.{Hq, End, BadArguments, ReadFailed, WriteFailed, DatabaseFailed, OutOfMemory, InputTooLong}
+use Rattle.hq_load.specs.declared.phrase.Phrase.TheVariants.{Hq, End, BadArguments, ReadFailed, WriteFailed, DatabaseFailed, OutOfMemory, InputTooLong, Copy}
 use Rattle.hq_load.specs.Faults.{fault_fields, fault_name}
 use Rattle.hq_command.specs.declared.refusal.Refusal.{Refusal}
 use Rattle.hq_command.specs.declared.refusal.Refusal.TheVariants as refusal
@@ -22,10 +22,12 @@ refusal_name refusal.WriteFailed = WriteFailed
 refusal_name (refusal.Database before after) = DatabaseFailed
 refusal_name refusal.Memory = OutOfMemory
 refusal_name refusal.InputTooLong = InputTooLong
+refusal_name (refusal.NotCopied cause) = Copy
 
 abbrev pub refusal_fields : Refusal → List (List ℕ)
 refusal_fields (refusal.File file f) = fault_fields f
 refusal_fields (refusal.Database before after) = decimal before ∷ decimal after ∷ []
+refusal_fields (refusal.NotCopied cause) = cause ∷ []
 refusal_fields r = []
 
 -- the line of a refusal

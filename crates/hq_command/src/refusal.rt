@@ -28,6 +28,9 @@ pub enum Refusal {
     Memory,
     #[error("input too long")]
     InputTooLong,
+    /// No part of a copy was written, for this cause.
+    #[error("copy: {cause:?}")]
+    NotCopied { cause: Txt },
 }
 
 impl Refusal {
@@ -45,6 +48,7 @@ impl Refusal {
             Refusal::Database { .. } => 6,
             Refusal::Memory => 7,
             Refusal::InputTooLong => 8,
+            Refusal::NotCopied { .. } => 1,
         }
     }
 }
@@ -76,6 +80,7 @@ impl Refusal {
             Refusal::Database { .. } => Phrase::DatabaseFailed,
             Refusal::Memory => Phrase::OutOfMemory,
             Refusal::InputTooLong => Phrase::InputTooLong,
+            Refusal::NotCopied { .. } => Phrase::Copy,
         }
     }
 
@@ -88,6 +93,7 @@ impl Refusal {
             Refusal::Database { before, after } => {
                 Fields::Two(Field::Number(*before), Field::Number(*after))
             }
+            Refusal::NotCopied { cause } => Fields::One(Field::Text(cause)),
             _ => Fields::Zero,
         }
     }

@@ -8,7 +8,7 @@ use Rattle.hq_load.specs.declared.parts.Field.TheVariants.{Text, Number}
 use Rattle.hq_load.specs.declared.parts.Fields.{Fields}
 use Rattle.hq_load.specs.declared.parts.Fields.TheVariants.{Zero, One, Two}
 use Rattle.hq_load.specs.declared.phrase.Phrase.{Phrase}
-use Rattle.hq_load.specs.declared.phrase.Phrase.TheVariants.{Hq, Colon, Space, End, BadArguments, ReadFailed, WriteFailed, DatabaseFailed, OutOfMemory, InputTooLong, Missing, TooLarge, NotJson, Shape, Repeated, NoKey, NameLength, TooMany, Header, Width, NotUtf8, ZeroByte, NotInteger, NotBoolean, NotUuid, NullInNotNull, Unclosed, RepeatedKey, Version, UnknownTable, UnknownColumn, NoForeignKey, BadOperand, BadMapping, RepeatedName, RepeatedRole, Sources, Memory, Ok, Tables, Roles, Rows}
+use Rattle.hq_load.specs.declared.phrase.Phrase.TheVariants.{Hq, Colon, Space, End, BadArguments, ReadFailed, WriteFailed, DatabaseFailed, OutOfMemory, InputTooLong, Missing, TooLarge, NotJson, Shape, Repeated, NoKey, NameLength, TooMany, Header, Width, NotUtf8, ZeroByte, NotInteger, NotBoolean, NotUuid, NullInNotNull, Unclosed, RepeatedKey, Version, UnknownTable, UnknownColumn, NoForeignKey, BadOperand, BadMapping, RepeatedName, RepeatedRole, Sources, Memory, Ok, Tables, Roles, Rows, Copy}
 
 -- the text of a phrase
 unfoldable pub phrase_text : Phrase → List ℕ
@@ -54,6 +54,7 @@ phrase_text Ok = codes "ok: "
 phrase_text Tables = codes " tables, "
 phrase_text Roles = codes " roles, "
 phrase_text Rows = codes " rows"
+phrase_text Copy = codes "copy:"
 
 -- a file, and what stands between it and the refusal's name
 abbrev pub front_text : Option (List ℕ) → List ℕ

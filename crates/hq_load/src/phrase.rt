@@ -45,6 +45,7 @@ pub enum Phrase {
     Tables,
     Roles,
     Rows,
+    Copy,
 }
 
 impl Phrase {
@@ -98,6 +99,7 @@ impl Phrase {
             Phrase::Tables => b" tables, ",
             Phrase::Roles => b" roles, ",
             Phrase::Rows => b" rows",
+            Phrase::Copy => b"copy:",
         }
     }
 }

@@ -1,0 +1,29 @@
+-- What the command writes is read back.
+use Rattle.std.proofs.Common.{◌≡◌, ℕ, List, true, Result, Ok, Err, subst}
+use Rattle.std.specs.Prelude.{OnOk}
+use Rattle.hq_copy.specs.Redacting.{copy_due}
+use Rattle.hq_copy_definition.specs.Copied.{Copied}
+use Rattle.hq_copy_text.specs.Clean.{IsClean}
+use Rattle.hq_copy_text.specs.Parts.{part_due}
+use Rattle.hq_laws_copy_text.specs.Laws.{PartReadsBack, ReadsBack}
+use Rattle.hq_load.specs.Loading.{contents}
+use Rattle.hq_model.specs.Catalog.{is_catalog}
+use Rattle.hq_model.specs.Database.{Row, is_database}
+use Rattle.hq_model.specs.Fits.{fits}
+use Rattle.hq_model.specs.Meta.{MetaTree}
+use Rattle.hq_model.specs.declared.session.Session.{Session}
+use Rattle.hq_model.specs.declared.table.Table.{Table}
+use Rattle.hq_command_copy.specs.Copying.{TextReadsBack}
+
+-- what holds whatever is answered holds of an answer
+pub on_any : {X E : Type 0} (P : Type 0) (r : Result X E) → P → OnOk r P
+on_any P (Ok x) h = h
+on_any P (Err e) h = tt
+
+-- the parts of the one copy that there is
+pub text_back : (law : (tables : List Table) (m : MetaTree) (session : Session) (d : List (List Row)) (c : Copied) (name text : List ℕ) → PartReadsBack tables m session d c name text)
+    → (tables : List Table) (m : MetaTree) (session : Session) (d : List (List Row)) (name : List ℕ) (k : Copied)
+    → is_catalog tables ≡ true → fits tables m ≡ true → is_database tables d ≡ true → copy_due tables m session d ≡ Ok k → IsClean k → TextReadsBack session name (contents tables m d)
+text_back law tables m session d name k whole fit valid given clean c text made due =
+    let same : k ≡ c = cc in
+    subst (λ (x : Copied). part_due x name ≡ Ok text → ReadsBack x name text) same (λ g. law tables m session d k name text whole fit valid given clean g) due

@@ -1,0 +1,8 @@
+mod Links
+mod Rows
+pub mod Bridge
+pub mod Causes
+pub mod Made
+pub mod Planned
+mod Unfailed
+pub mod Redacted

@@ -1,0 +1,12 @@
+use Rattle.std.proofs.Common.{◌∙◌, ap, sym}
+use Rattle.hq_model.specs.Meta.{meta_view}
+use Rattle.hq_model.proofs.Places.{table_present, table_absent}
+use Rattle.hq_copy_tables.proofs.extras.key_of.Goals as goal
+
+pub returns-in-Some : goal.returns-in-Some
+returns-in-Some c =
+    c.as_slice.ensures
+    ∙ ap (λ table. table.key) (sym (table_present c.args.scope.now.catalog.now.tables (meta_view c.args.scope.now.meta.now) c.args.t c.in-Some.table.now (sym c.in-Some.ensures)))
+
+pub returns-in-None : goal.returns-in-None
+returns-in-None c = ap (λ table. table.key) (sym (table_absent c.args.scope.now.catalog.now.tables (meta_view c.args.scope.now.meta.now) c.args.t (sym c.in-None.ensures)))

@@ -1,0 +1,3 @@
+mod Plain
+mod Writable
+pub mod Answers
