@@ -1,6 +1,6 @@
 -- What is answered to the request for a copy, by its parts.
 use Rattle.std.proofs.Common.{◌≡◌, ◌≢◌, ℕ, List, true, Option, Some, None, Result, Ok, Err, inl, inr, ⊎_elim, refl, sym, ap, ◌∙◌, subst}
-use Rattle.std.specs.Prelude.{◌⊎◌, IfSome}
+use Rattle.std.specs.Prelude.{◌⊎◌, IfErr, IfSome}
 use Rattle.hq_copy_definition.specs.Copied.{Copied}
 use Rattle.hq_copy_definition.specs.Metadata.{copied_meta}
 use Rattle.hq_copy_definition.specs.Refusals.{filter_refusal, first_of, or_else}
@@ -8,11 +8,16 @@ use Rattle.hq_copy_definition.specs.Sources.{Source, sources}
 use Rattle.hq_copy_definition.specs.Tables.{copied_tables}
 use Rattle.hq_copy_definition.specs.declared.refusal.CopyRefusal.{CopyRefusal}
 use Rattle.hq_copy_definition.specs.declared.refusal.CopyRefusal.TheVariants as refusal
-use Rattle.hq_model.specs.Database.{Row}
+use Rattle.hq_laws_copy.specs.Fits.Laws.{CatalogFits}
+use Rattle.hq_laws_copy.specs.Rows.Laws.{RowsFit}
+use Rattle.hq_model.specs.Catalog.{is_catalog}
+use Rattle.hq_model.specs.Database.{Row, is_database}
 use Rattle.hq_model.specs.Fits.{fits}
+use Rattle.hq_model.specs.Grants.{grants_of}
 use Rattle.hq_model.specs.Meta.{MetaTree}
 use Rattle.hq_model.specs.Permission.{Permission, role_of}
 use Rattle.hq_model.specs.Schema.{Schema, schema_of}
+use Rattle.hq_model.specs.View.{view}
 use Rattle.hq_model.specs.declared.role.Role.{Role}
 use Rattle.hq_model.specs.declared.session.Session.{Session}
 use Rattle.hq_model.specs.declared.table.Table.{Table}
@@ -52,6 +57,11 @@ unfailed_tells before now (refusal.MaskedKey name) h = tt
 unfailed_tells before now (refusal.TooWide name) h = tt
 unfailed_tells before now (refusal.NotWritable name k) h = tt
 
+-- whatever is answered
+pub all_unfailed : (before now : ℕ) (x : Result Redacted CopyRefusal) → IfErr x (λ e. (b a : ℕ) → e ≢ refusal.Failed b a) → IfErr x (TellsRise before now)
+all_unfailed before now (Ok r) h = tt
+all_unfailed before now (Err e) h = unfailed_tells before now e h
+
 -- nor does one that is told
 told_unfailed : (due : Option CopyRefusal) (e : CopyRefusal) → Unfailed due → IsTold due e → (b a : ℕ) → e ≢ refusal.Failed b a
 told_unfailed due e none h b a f = ⊎_elim (λ want. cc) (λ is. none e b a is f) h
@@ -59,6 +69,16 @@ told_unfailed due e none h b a f = ⊎_elim (λ want. cc) (λ is. none e b a is 
 module _ (tables : List Table) (m : MetaTree) (session : Session) where
   abbrev s : Schema
   s = schema_of tables m
+
+  -- want of memory is an answer, whatever is due
+  pub want_answers : (e : CopyRefusal) → e ≡ refusal.Memory → (o : Option (List (List Row))) → IfSome o (λ d. Redacts (copy_due tables m session d) (Err e))
+  want_answers e want None = tt
+  want_answers e want (Some d) = told_answers (copy_due tables m session d) e (inl want)
+
+  -- and so is a failure
+  pub failure_answers : (before after : ℕ) (o : Option (List (List Row))) → IfSome o (λ d. Redacts (copy_due tables m session d) (Err (refusal.Failed before after)))
+  failure_answers before after None = tt
+  failure_answers before after (Some d) = tt
 
   -- ---- before rows are read
 
@@ -115,6 +135,16 @@ module _ (tables : List Table) (m : MetaTree) (session : Session) where
     -- none does
     pub copy_given : files_of ts lists ≡ None → copy_due tables m session d ≡ Ok (record { tables = ts; meta = mv; rows = lists })
     copy_given none = made_given tables m session d fit ts mv qs lists tables_are meta_is bound_is described_is lists_are none
+
+    -- what is made of it is a catalog, a metadata that fits it, and rows that are valid for it
+    pub copy_is_whole : ((c : Copied) → CatalogFits tables m session (view s (grants_of session tables m) d) c) → ((c : Copied) → RowsFit tables m session d c)
+        → is_catalog tables ≡ true → is_database tables d ≡ true → files_of ts lists ≡ None
+        → (is_catalog ts ≡ true) × (fits ts mv ≡ true) × (is_database ts lists ≡ true)
+    copy_is_whole catalogs rows whole valid none =
+        let c : Copied = record { tables = ts; meta = mv; rows = lists } in
+        let given : copy_due tables m session d ≡ Ok c = copy_given none in
+        let fitting = catalogs c whole fit given in
+        (fitting.0, fitting.1, rows c fit valid given)
 
   -- the answer over rows is the one over the told database, which they are
   pub told_database : (o : Option (List (List Row))) (rows : List (List Row)) (x : Result Redacted CopyRefusal) → IfSome o (λ d. rows ≡ d) → Redacts (copy_due tables m session rows) x

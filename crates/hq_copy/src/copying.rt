@@ -42,8 +42,11 @@ fn permitted<'d>(
 // The rows of each table of the copy.
 fn copied(alloc: Global, world: &World<'_>, grants: &[PermView]) -> Result<Vec<RowList>, Memory>
     requires { IsOriginal world.now.original.now }
-    ensures { IfOk result (λ all. all.items ≡ direct_lists (role_in world.now.original.now) (meta_in world.now.original.now) (schema_in world.now.original.now) (database_of world.now.tables.now)
-        (rows_for (map source_view world.now.original.now.sources.now) (lists_of world.now.permitted.now)) (map source_view world.now.original.now.sources.now) (map permission_view grants.now) (lists_of world.now.permitted.now)) }
+    ensures { IfOk result
+        (λ all. all.items
+        ≡ direct_lists (role_in world.now.original.now) (meta_in world.now.original.now) (schema_in world.now.original.now) (database_of world.now.tables.now)
+        (rows_for (map source_view world.now.original.now.sources.now) (lists_of world.now.permitted.now))
+        (map source_view world.now.original.now.sources.now) (map permission_view grants.now) (lists_of world.now.permitted.now)) }
 {
     let mut all = Vec::new(alloc);
     let sources = world.original.sources;

@@ -122,8 +122,12 @@ pub fn copied_rows(
     rows: &[&[Val]],
 ) -> Result<RowList, Memory>
     requires { IsOriginal world.now.original.now }
-    ensures { IfOk result (λ all. all ≡ numbered (direct_row (role_in world.now.original.now) (meta_in world.now.original.now) (schema_in world.now.original.now) (database_of world.now.tables.now) (permission_view permission.now)
-        (rows_for (map source_view world.now.original.now.sources.now) (lists_of world.now.permitted.now)) (source_view source.now)) 0 (rows_of rows.now)) }
+    ensures { IfOk result
+        (λ all. all
+        ≡ numbered
+        (direct_row (role_in world.now.original.now) (meta_in world.now.original.now) (schema_in world.now.original.now) (database_of world.now.tables.now)
+        (permission_view permission.now) (rows_for (map source_view world.now.original.now.sources.now) (lists_of world.now.permitted.now)) (source_view source.now))
+        0 (rows_of rows.now)) }
 {
     let extras = extras_of(alloc, world.original, source)?;
     let mut all = List::new(alloc);

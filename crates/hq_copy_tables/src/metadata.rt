@@ -1,5 +1,5 @@
 //! The metadata of a copy.
-ghost use Rattle.std.specs.Prelude.{◌≡◌, ◌++◌, ◌∷◌, [], IfOk, OnOk, map, slice_index_or};
+ghost use Rattle.std.specs.Prelude.{◌≡◌, ◌<◌, ◌^◌, ◌++◌, ◌∷◌, [], IfOk, OnOk, map, slice_index_or};
 ghost use Rattle.hq_copy_definition.specs.Extras.{extra_name};
 ghost use Rattle.hq_copy_definition.specs.Metadata.{copied_entry, copied_meta, copied_names, copied_pair, copied_rel, from_place, places, reader, reader_permission, to_place, width};
 ghost use Rattle.hq_copy_definition.specs.Sources.{kept_relationships, link_remote};
@@ -16,8 +16,8 @@ use crate::relationships::kept_relationships;
 use crate::{Link, Original, Source};
 use hq_base::{List, Memory, Txt};
 use hq_model::{
-    Bexp, ColId, ColList, Meta, Pair, PairList, Perm, PermList, PermView, Rel, RelList, TableId,
-    Tracked, TryCopy, TxtList,
+    Bexp, ColId, ColList, Meta, Pair, PairList, Perm, PermList, PermView, Rel, RelId, RelList,
+    TableId, Tracked, TryCopy, TxtList,
 };
 use std::alloc::Global;
 
@@ -32,10 +32,11 @@ fn reader(alloc: Global) -> Result<Txt, Memory>
 
 // How many columns of a table are permitted.
 fn width(alloc: Global, original: &Original<'_>, t: TableId) -> Result<usize, Memory>
-    ensures { IfOk result (λ n. n ≡ width (role_in original.now) (meta_in original.now) t) }
+    ensures width { IfOk result (λ n. n ≡ width (role_in original.now) (meta_in original.now) t) }
+    ensures within { IfOk result (λ n. n < 2 ^ 63) }
 {
     match original.scope.meta.perm(alloc, original.role, t)? {
-        Some(permission) => Ok(permission.cols.len()),
+        Some(permission) => Ok(permission.cols.as_slice().len()),
         None => Ok(0),
     }
 }
@@ -96,6 +97,24 @@ fn copied_rel(alloc: Global, original: &Original<'_>, link: Link) -> Result<Rel,
     })
 }
 
+// A relationship of a table of the copy, behind others.
+fn push_rel(
+    alloc: Global,
+    original: &Original<'_>,
+    table: TableId,
+    relationship: RelId,
+    rels: &mut RelList,
+) -> Result<(), Memory>
+    requires { IsOriginal original.now }
+    ensures { OnOk result (rels.new ≡ rels.old ++ copied_rel (role_in original.now) (meta_in original.now) (schema_in original.now) table relationship ∷ []) }
+{
+    let link = Link {
+        table,
+        relationship,
+    };
+    rels.push(copied_rel(alloc, original, link)?)
+}
+
 // The relationships of a table of the copy.
 fn copied_rels(alloc: Global, original: &Original<'_>, table: TableId) -> Result<RelList, Memory>
     requires { IsOriginal original.now }
@@ -107,11 +126,7 @@ fn copied_rels(alloc: Global, original: &Original<'_>, table: TableId) -> Result
     let kept = kept_relationships(alloc, &original.scope, original.role, table)?;
     let mut rels = List::new(alloc);
     for relationship in &kept {
-        let link = Link {
-            table,
-            relationship: *relationship,
-        };
-        rels.push(copied_rel(alloc, original, link)?)?;
+        push_rel(alloc, original, table, *relationship, &mut rels)?;
     }
     Ok(rels)
 }

@@ -1,5 +1,5 @@
 //! Places in lists.
-ghost use Rattle.std.specs.Prelude.{◌≡◌, ◌==◌, map};
+ghost use Rattle.std.specs.Prelude.{◌≡◌, ◌==◌, ◌≤◌, length, map};
 ghost use Rattle.std.specs.List.{position_or_len};
 ghost use Rattle.hq_copy_definition.specs.Extras.{is_from_end, is_to_end};
 ghost use Rattle.hq_copy_definition.specs.Sources.{place_in, table_place};
@@ -54,7 +54,8 @@ fn is_to_end(link: Link, extra: Extra) -> bool
 
 /// The place of the own end of a link among added columns.
 pub(crate) fn from_end_place(extras: &[Extra], link: Link) -> usize
-    ensures { result ≡ position_or_len (is_from_end (link_view link)) (map extra_view extras.now) }
+    ensures place { result ≡ position_or_len (is_from_end (link_view link)) (map extra_view extras.now) }
+    ensures within { result ≤ length extras.now }
 {
     match extras.iter().position(|extra| is_from_end(link, *extra)) {
         Some(at) => at,
@@ -64,7 +65,8 @@ pub(crate) fn from_end_place(extras: &[Extra], link: Link) -> usize
 
 /// The place of the remote end of a link among added columns.
 pub(crate) fn to_end_place(extras: &[Extra], link: Link) -> usize
-    ensures { result ≡ position_or_len (is_to_end (link_view link)) (map extra_view extras.now) }
+    ensures place { result ≡ position_or_len (is_to_end (link_view link)) (map extra_view extras.now) }
+    ensures within { result ≤ length extras.now }
 {
     match extras.iter().position(|extra| is_to_end(link, *extra)) {
         Some(at) => at,

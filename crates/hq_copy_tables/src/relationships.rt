@@ -1,5 +1,5 @@
 //! The relationships that a copy keeps.
-ghost use Rattle.std.specs.Prelude.{◌≡◌, IfOk, is_some};
+ghost use Rattle.std.specs.Prelude.{◌≡◌, ◌++◌, ◌∷◌, [], cond, IfOk, OnOk, is_some};
 ghost use Rattle.hq_copy_definition.specs.Sources.{kept_relationships};
 ghost use Rattle.hq_model.specs.Meta.{meta_view};
 ghost use Rattle.hq_model.specs.Permission.{permission};
@@ -38,6 +38,16 @@ fn is_seen(alloc: Global, scope: &Scope<'_>, role: &Role, t: TableId) -> Result<
     Ok(permission.is_some())
 }
 
+// The place of a relationship, behind others, where it is kept.
+fn push_kept(at: usize, is_kept: bool, kept: &mut Vec<RelId>) -> Result<(), Memory>
+    ensures { OnOk result (kept.new.items ≡ kept.old.items ++ cond is_kept (at ∷ []) []) }
+{
+    if is_kept {
+        kept.push(RelId::new(at))?;
+    }
+    Ok(())
+}
+
 /// The relationships of a table that are kept: those to tables that the role may see something of.
 pub fn kept_relationships(
     alloc: Global,
@@ -50,9 +60,8 @@ pub fn kept_relationships(
     let rels = relationships(scope, t);
     let mut kept = Vec::new(alloc);
     for (at, rel) in rels.iter().enumerate() {
-        if is_seen(alloc, scope, role, rel.remote)? {
-            kept.push(RelId::new(at))?;
-        }
+        let is_kept = is_seen(alloc, scope, role, rel.remote)?;
+        push_kept(at, is_kept, &mut kept)?;
     }
     Ok(kept)
 }

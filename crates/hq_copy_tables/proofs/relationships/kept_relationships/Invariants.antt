@@ -10,4 +10,4 @@ use Rattle.hq_copy_tables.proofs.relationships.kept_relationships.Given as goal
 abbrev pub invariant-loop-at : goal.invariant-loop-at
 invariant-loop-at l =
     l.kept.items ++ places_from (λ r. is_some (permission l.role (meta_view l.scope.meta.now) r.remote)) l.at (drop l.at l.rels)
-    ≡ kept_relationships l.role (meta_view l.scope.meta.now) (scope_schema l.scope) l.t
+    ≡ kept_relationships l.role (meta_view l.scope.meta.now) (scope_schema l.scope) l.fn.t
