@@ -5,4 +5,4 @@ pub mod Causes
 pub mod Made
 pub mod Planned
 mod Unfailed
-pub mod Redacted
+pub mod Answering

@@ -2,7 +2,7 @@ use Rattle.std.proofs.Common.{◌≡◌, true, sym, subst}
 use Rattle.hq_copy_filter.specs.Lent.{database_of}
 use Rattle.hq_copy_tables.specs.Originals.{meta_in}
 use Rattle.hq_model.specs.Database.{is_database}
-use Rattle.hq_copy.proofs.Redacted.{told_database, want_answers}
+use Rattle.hq_copy.proofs.Answering.{told_database, want_answers}
 use Rattle.hq_copy.proofs.redacting.copied.Goals as goal
 
 pub made-requires-clause-valid : goal.made-requires-clause-valid

@@ -1,5 +1,5 @@
 use Rattle.hq_copy_tables.specs.Originals.{meta_in, role_in}
-use Rattle.hq_copy.proofs.Redacted.{planned_answers, planned_tells}
+use Rattle.hq_copy.proofs.Answering.{planned_answers, planned_tells}
 use Rattle.hq_copy.proofs.redacting.copied_for.Goals as goal
 
 pub returns-in_err-plan-clause-due : goal.returns-in_err-plan-clause-due

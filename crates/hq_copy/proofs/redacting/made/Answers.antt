@@ -8,7 +8,7 @@ use Rattle.hq_model.specs.Meta.{meta_view}
 use Rattle.hq_model.specs.PermView.{permission_view}
 use Rattle.hq_model.specs.Schema.{schema_of}
 use Rattle.hq_model.specs.View.{view}
-use Rattle.hq_copy.proofs.Redacted.{copy_given, copy_is_whole, file_answers, file_unfailed}
+use Rattle.hq_copy.proofs.Answering.{copy_given, copy_is_whole, file_answers, file_unfailed}
 use Rattle.hq_copy.proofs.redacting.made.Goals as goal
 
 pub returns-in_err-check_files-clause-due : goal.returns-in_err-check_files-clause-due

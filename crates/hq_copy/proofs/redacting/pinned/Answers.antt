@@ -3,7 +3,7 @@ use Rattle.hq_copy_tables.specs.Originals.{meta_in}
 use Rattle.hq_model.specs.Database.{Row}
 use Rattle.hq_model.specs.declared.table.Table.{Table}
 use Rattle.hq_copy.specs.Redacting.{Redacts, copy_due}
-use Rattle.hq_copy.proofs.Redacted.{all_unfailed}
+use Rattle.hq_copy.proofs.Answering.{all_unfailed}
 use Rattle.hq_copy.proofs.redacting.pinned.Goals as goal
 
 pub copied-requires-clause-pinned : goal.copied-requires-clause-pinned
