@@ -3,5 +3,7 @@ pub mod Granted
 pub mod Files
 pub mod Direct
 pub mod Lists
+pub mod Finders
+pub mod LinkNumbers
 pub mod Redacting
 pub mod Plans

@@ -7,7 +7,8 @@ ghost use Rattle.hq_copy.specs.Direct.{direct_lists, lists_due, permitted_lists,
 ghost use Rattle.hq_copy.specs.Lists.{lists_of};
 ghost use Rattle.hq_model.specs.PermView.{permission_view};
 
-use crate::row::{RowRefs, World, copied_rows};
+use crate::row::copied_rows;
+use crate::world::{RowRefs, World};
 use hq_base::Memory;
 use hq_copy_filter::permitted_rows;
 use hq_copy_tables::Original;
@@ -60,11 +61,11 @@ fn copied(alloc: Global, world: &World<'_>, grants: &[PermView]) -> Result<Vec<R
 }
 
 /// The rows of each table of a copy, made of all rows of the original and of what is granted of the tables that are copied.
-pub fn all_copied_rows(
+pub fn all_copied_rows<'d>(
     alloc: Global,
-    original: &Original<'_>,
+    original: &'d Original<'d>,
     grants: &[PermView],
-    tables: &[&Rows],
+    tables: &'d [&'d Rows],
 ) -> Result<Vec<RowList>, Memory>
     requires { IsOriginal original.now }
     ensures { IfOk result

@@ -1,6 +1,7 @@
-//! The numbers that link rows of a copy.
+//! The numbers that link rows of a copy, sought row by row.
 ghost use Rattle.std.specs.Prelude.{◌≡◌, ◌<◌, ◌^◌, IfSome};
-ghost use Rattle.hq_copy_definition.specs.Links.{first_from, from_number};
+ghost use Rattle.std.specs.List.{position_from};
+ghost use Rattle.hq_copy_definition.specs.Links.{from_number};
 ghost use Rattle.hq_copy_definition.specs.Rows.{number_value};
 ghost use Rattle.hq_copy_filter.specs.Lent.{rows_of};
 ghost use Rattle.hq_model.specs.Seen.{linked_by};
@@ -22,14 +23,13 @@ pub fn from_number(pairs: &[Pair], row: &[Val], remote: &[&[Val]]) -> Option<usi
     None
 }
 
-/// The number of the first own row that is linked to a remote row.
-pub fn to_number(pairs: &[Pair], own: &[&[Val]], remote: &[&[Val]], far: &[Val]) -> Option<usize>
-    ensures number { result ≡ first_from (linked_by pairs.now) (rows_of own.now) (rows_of remote.now) far.now }
-    ensures within { IfSome result (λ n. n < 2 ^ 63) }
+/// The place, counted from 0, of the first own row that is linked to a remote row.
+pub fn first_linked(pairs: &[Pair], own: &[&[Val]], far: &[Val]) -> Option<usize>
+    ensures { result ≡ position_from (λ row. linked_by pairs.now row far.now) 0 (rows_of own.now) }
 {
-    for row in own {
+    for (at, row) in own.iter().enumerate() {
         if are_linked(pairs, row, far) {
-            return from_number(pairs, row, remote);
+            return Some(at);
         }
     }
     None

@@ -225,7 +225,7 @@ fn copied_by<T: Tables>(
 ) -> Result<Redacted, CopyRefusal>
     requires fits { fits scope.catalog.now.tables (meta_view scope.meta.now) ≡ true }
     requires tables { scope.catalog.now.tables ≡ T.tables tables.old }
-    ensures due { IfSome (T.database tables.old) (λ d. Redacts (copy_due scope.catalog.now.tables (meta_view scope.meta.now) session.now d) result) }
+    ensures due { IfSome (T.database tables.old) (λ d. Redacts (copy_due scope.entry.catalog.now.tables (meta_view scope.entry.meta.now) session.now d) result) }
     ensures failed { IfErr result (TellsRise (T.faults tables.old) (T.faults tables.new)) }
     ensures same_tables { T.tables tables.new ≡ T.tables tables.old }
     ensures database { T.database tables.new ≡ T.database tables.old }
