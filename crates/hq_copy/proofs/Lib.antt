@@ -6,3 +6,4 @@ pub mod Made
 pub mod Planned
 mod Unfailed
 pub mod Answering
+pub mod Databases

@@ -60,11 +60,11 @@ fn copied(alloc: Global, world: &World<'_>, grants: &[PermView]) -> Result<Vec<R
 }
 
 /// The rows of each table of a copy, made of all rows of the original and of what is granted of the tables that are copied.
-pub fn all_copied_rows(
+pub fn all_copied_rows<'d>(
     alloc: Global,
-    original: &Original<'_>,
+    original: &'d Original<'d>,
     grants: &[PermView],
-    tables: &[&Rows],
+    tables: &'d [&'d Rows],
 ) -> Result<Vec<RowList>, Memory>
     requires { IsOriginal original.now }
     ensures { IfOk result

@@ -49,22 +49,22 @@ impl<'d> World<'d> {
     }
 
     // The value of an added column in the row at a position, counted from 0.
-    fn extra_value(&self, at: usize, row: &[Val], extra: Extra) -> Val
+    fn extra_value(&self, at: usize, row: &[Val], extra: &Extra) -> Val
         requires { at + 1 < 2 ^ 63 }
         ensures { result
             ≡ direct_value (schema_in self.now.original.now)
             (rows_for (map source_view self.now.original.now.sources.now) (lists_of self.now.permitted.now)) at row.now
-            (extra_view extra) }
+            (extra_view extra.now) }
     {
         match extra {
             Extra::From { link, .. } => {
-                let remote = link_remote(&self.original.scope, link);
-                number_value(from_number(self.pairs(link), row, self.rows(remote)))
+                let remote = link_remote(&self.original.scope, *link);
+                number_value(from_number(self.pairs(*link), row, self.rows(remote)))
             }
             Extra::To { link, .. } => {
-                let remote = link_remote(&self.original.scope, link);
+                let remote = link_remote(&self.original.scope, *link);
                 let own = self.rows(link.table);
-                number_value(to_number(self.pairs(link), own, self.rows(remote), row))
+                number_value(to_number(self.pairs(*link), own, self.rows(remote), row))
             }
             Extra::Position => number_value(Some(at + 1)),
         }
@@ -108,7 +108,7 @@ fn push_extras(
         (map extra_view extras.now)) }
 {
     for extra in extras {
-        values.push(world.extra_value(at, row, *extra))?;
+        values.push(world.extra_value(at, row, extra))?;
     }
     Ok(())
 }
