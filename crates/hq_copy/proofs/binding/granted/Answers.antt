@@ -34,7 +34,7 @@ loop-source-preserved c =
     read_more (due_of s vars) (due_for s vars) (granted_read s vars)
     c.args.sources.now c.loop-source.source-index c.source-item.result _ _ (permission_view c.in-Ok.permission) _ c.loop-source.invariant c.loop-source-test.true c.source-item.is
     (ap or_not_bound c.in-Ok.ensures)
-    (ap (map permission_view) c.in_ok-push.ensures.ok ∙ map-append permission_view _ _)
+    (ap (map permission_view) c.in_ok-push-in-Ok.ensures.ok ∙ map-append permission_view _ _)
 
 -- one that does not bind is the refusal of them all
 pub returns-in-Err : goal.returns-in-Err
