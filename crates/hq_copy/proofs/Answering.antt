@@ -46,6 +46,36 @@ due_answers due (refusal.NotWritable name k) h = h
 pub told_answers : (due : Result Copied CopyRefusal) (e : CopyRefusal) → (e ≡ refusal.Memory) ⊎ (due ≡ Err e) → Redacts due (Err e)
 told_answers due e h = ⊎_elim (λ want. subst (λ x. Redacts due (Err x)) (sym want) tt) (λ is. due_answers due e is) h
 
+-- what is handed on
+pub passed_told : (o : Option (List (List Row))) (due : List (List Row) → Result Copied CopyRefusal) (x : Result Redacted CopyRefusal) (e : CopyRefusal) → x ≡ Err e
+    → IfSome o (λ d. Redacts (due d) (Err e)) → IfSome o (λ d. Redacts (due d) x)
+passed_told o due x e is h = subst (λ y. IfSome o (λ d. Redacts (due d) y)) (sym is) h
+
+pub passed_answer : (due : Result Copied CopyRefusal) (x : Result Redacted CopyRefusal) (e : CopyRefusal) → x ≡ Err e → Redacts due (Err e) → Redacts due x
+passed_answer due x e is h = subst (Redacts due) (sym is) h
+
+pub passed_tells : (before now : ℕ) (x : Result Redacted CopyRefusal) (e : CopyRefusal) → x ≡ Err e → TellsRise before now e → IfErr x (TellsRise before now)
+passed_tells before now x e is h = subst (λ y. IfErr y (TellsRise before now)) (sym is) h
+
+pub passed_unfailed : (x : Result Redacted CopyRefusal) (e : CopyRefusal) → x ≡ Err e → ((b a : ℕ) → e ≢ refusal.Failed b a) → IfErr x (λ y. (b a : ℕ) → y ≢ refusal.Failed b a)
+passed_unfailed x e is h = subst (λ y. IfErr y (λ z. (b a : ℕ) → z ≢ refusal.Failed b a)) (sym is) h
+
+-- want of memory is no failure
+pub want_unfailed : (x : Result Redacted CopyRefusal) (e : CopyRefusal) → x ≡ Err e → e ≡ refusal.Memory → IfErr x (λ y. (b a : ℕ) → y ≢ refusal.Failed b a)
+want_unfailed x e is want = passed_unfailed x e is (λ b a f. cc)
+
+pub want_tells : (before now : ℕ) (x : Result Redacted CopyRefusal) (e : CopyRefusal) → x ≡ Err e → e ≡ refusal.Memory → IfErr x (TellsRise before now)
+want_tells before now x e is want = subst (λ y. IfErr y (TellsRise before now)) (sym (is ∙ ap Err want)) tt
+
+pub want_answer : (due : Result Copied CopyRefusal) (x : Result Redacted CopyRefusal) (e : CopyRefusal) → x ≡ Err e → e ≡ refusal.Memory → Redacts due x
+want_answer due x e is want = subst (Redacts due) (sym (is ∙ ap Err want)) tt
+
+-- want of memory is told whatever is due
+pub want_told : (o : Option (List (List Row))) (due : List (List Row) → Result Copied CopyRefusal) (x : Result Redacted CopyRefusal) (e : CopyRefusal) → x ≡ Err e → e ≡ refusal.Memory
+    → IfSome o (λ d. Redacts (due d) x)
+want_told None due x e is want = tt
+want_told (Some d) due x e is want = want_answer (due d) x e is want
+
 -- a refusal that is no failure tells of no rise
 unfailed_tells : (before now : ℕ) (e : CopyRefusal) → ((b a : ℕ) → e ≢ refusal.Failed b a) → TellsRise before now e
 unfailed_tells before now refusal.Memory h = tt
@@ -70,12 +100,7 @@ module _ (tables : List Table) (m : MetaTree) (session : Session) where
   abbrev s : Schema
   s = schema_of tables m
 
-  -- want of memory is an answer, whatever is due
-  pub want_answers : (e : CopyRefusal) → e ≡ refusal.Memory → (o : Option (List (List Row))) → IfSome o (λ d. Redacts (copy_due tables m session d) (Err e))
-  want_answers e want None = tt
-  want_answers e want (Some d) = told_answers (copy_due tables m session d) e (inl want)
-
-  -- and so is a failure
+  -- a failure is an answer, whatever is due
   pub failure_answers : (before after : ℕ) (o : Option (List (List Row))) → IfSome o (λ d. Redacts (copy_due tables m session d) (Err (refusal.Failed before after)))
   failure_answers before after None = tt
   failure_answers before after (Some d) = tt

@@ -7,3 +7,4 @@ pub mod Planned
 mod Unfailed
 pub mod Answering
 pub mod Found
+pub mod Databases

@@ -1,5 +1,5 @@
 //! Making a redacted copy.
-ghost use Rattle.std.specs.Prelude.{◌≡◌, ◌≢◌, ◌≤◌, ◌<◌, ℕ, IfErr, IfOk, IfSome, true, false, length};
+ghost use Rattle.std.specs.Prelude.{◌≡◌, ◌≢◌, ◌≤◌, ◌<◌, ◌++◌, ◌∷◌, [], ℕ, IfErr, IfOk, IfSome, OnOk, Some, slice_get, true, false, length};
 ghost use Rattle.hq_copy_definition.specs.Metadata.{copied_meta};
 ghost use Rattle.hq_copy_definition.specs.Refusals.{or_else};
 ghost use Rattle.hq_copy_definition.specs.Sources.{links, sources};
@@ -11,10 +11,11 @@ ghost use Rattle.hq_copy.specs.Plans.{PlannedFor};
 ghost use Rattle.hq_copy.specs.Redacting.{Redacts, TellsRise, copy_due, described_refusal, redacted_view, refusal_in};
 ghost use Rattle.hq_copy.specs.Refused.{Refuses};
 ghost use Rattle.hq_model.specs.Catalog.{is_catalog};
-ghost use Rattle.hq_model.specs.Database.{is_database};
+ghost use Rattle.hq_model.specs.Database.{are_rows, is_database};
 ghost use Rattle.hq_model.specs.Fits.{fits};
 ghost use Rattle.hq_model.specs.Meta.{meta_view};
 ghost use Rattle.hq_model.specs.Permission.{role_of};
+ghost use Rattle.hq_model.specs.declared.table.Table.{Table as CatalogTable};
 
 use crate::Redacted;
 use crate::binding::granted;
@@ -29,7 +30,7 @@ use hq_copy_filter::{all_rows, pin_all};
 use hq_copy_tables::{Original, copied_meta, copied_tables, links, sources};
 use hq_laws_copy::{copied_metadata_fits, copied_rows_fit};
 use hq_load_tables::{RowList, Rows, RowsList, StoreRefusal, Tables};
-use hq_model::{Catalog, Meta, PermView, Role, Scope, Session, TableList};
+use hq_model::{Catalog, Meta, PermView, Role, Scope, Session, Table, TableList};
 use std::alloc::Global;
 
 /// The catalog and the metadata of a copy, and what the session is granted of its tables.
@@ -80,15 +81,31 @@ fn planned(alloc: Global, original: &Original<'_>, session: &Session) -> Result<
     })
 }
 
+// The rows of the table at this place, behind those of others.
+fn push_rows(
+    alloc: Global,
+    tables: &[Table],
+    at: usize,
+    rows: RowList,
+    all: &mut RowsList,
+) -> Result<(), Memory>
+    requires within { at < length tables.now }
+    requires valid { (t : CatalogTable) → slice_get tables.now at ≡ Some t → are_rows t rows ≡ true }
+    ensures { OnOk result (all.new ≡ all.old ++ rows ∷ []) }
+{
+    all.push(Rows::of(alloc, rows, &tables[at])?)
+}
+
 // The rows of tables, each valid for its table.
 fn rows_list(alloc: Global, catalog: &Catalog, lists: Vec<RowList>) -> Result<RowsList, Memory>
     requires { is_database catalog.now.tables lists.items ≡ true }
     ensures { IfOk result (λ rows. rows ≡ lists.items) }
 {
+    let tables = catalog.tables.as_slice();
     let mut all = List::new(alloc);
     let mut at = 0;
     for rows in lists {
-        all.push(Rows::of(alloc, rows, &catalog.tables.as_slice()[at])?)?;
+        push_rows(alloc, tables, at, rows, &mut all)?;
         at += 1;
     }
     Ok(all)
