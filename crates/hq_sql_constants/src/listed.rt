@@ -52,7 +52,7 @@ fn is_of_one(test: Test) -> bool
 {
     match test {
         Test::Among | Test::Compare(Op::Eq) => true,
-        Test::Compare(_) | Test::IsNull | Test::Like { .. } => false,
+        _ => false,
     }
 }
 
