@@ -1,5 +1,5 @@
 import re,os,sys,glob
-root='/work/next/crates'
+root=(sys.argv[1] if len(sys.argv)>1 else '/work/land')+'/crates'
 # module -> defined names
 defs={}
 allpub={}
