@@ -2,7 +2,6 @@
 use Rattle.std.proofs.Common.{◌≡◌, ℕ, List, Option, Some, None, IfSome, Result, Ok, Err, refl, ap, subst}
 use Rattle.hq_request_tree.specs.Request.{AskTree}
 use Rattle.hq_engine.specs.Asking.{Counts}
-use Rattle.hq_engine.specs.Engines.{engine_agree}
 use Rattle.hq_engine.specs.Laws.{RepliesAgree}
 use Rattle.hq_engine.specs.Replies.{reply_to}
 use Rattle.hq_engine.specs.declared.engine.Engine.{Engine}
@@ -13,10 +12,10 @@ use Rattle.hq_model.specs.Database.{Row}
 use Rattle.hq_model.specs.Meta.{MetaTree, meta_view}
 use Rattle.hq_model.specs.declared.session.Session.{Session}
 use Rattle.hq_model.specs.declared.table.Table.{Table}
-use Rattle.hq_command.specs.Ending.{Answer, Ends, Output}
+use Rattle.hq_command.specs.Ending.{Outcome, Ends, Output}
 use Rattle.hq_command.specs.Answers.{Answers}
 use Rattle.hq_app.specs.Laws.{AnswersAlike, OutputsAgree}
-use Rattle.hq_command.specs.Output.{engine_output, reply_output, within_limit}
+use Rattle.hq_command.specs.Output.{reply_output, within_limit}
 use Rattle.hq_command.specs.declared.done.Done.TheVariants.{Answered}
 use Rattle.hq_command.specs.declared.refusal.Refusal.{Refusal}
 
@@ -34,7 +33,7 @@ outputs_agree tables meta session text d e replies catalog fit agree =
     ap (within_limit text) (output_same tables meta session d e (request_due tables meta session text) (replies catalog fit agree))
 
 -- so an answer over one of them is one over the other
-pub answers_alike : (engine : Engine) (session : Session) (database : Option (List (List Row))) (text : List ℕ) (old new : Option (List ℕ)) (before now : Counts) (answer : Answer)
+pub answers_alike : (engine : Engine) (session : Session) (database : Option (List (List Row))) (text : List ℕ) (old new : Option (List ℕ)) (before now : Counts) (answer : Outcome)
     → ((d e : List (List Row)) → OutputsAgree engine.catalog.tables (meta_view engine.meta) session text d e) → Answers engine session database text old new before now answer
     → AnswersAlike engine session database text old new before now answer
 answers_alike engine session None text old new before now answer worlds is = tt
@@ -45,7 +44,7 @@ answers_alike engine session (Some d) text old new before now answer worlds is =
     }
 
 -- where the input is told
-pub told_alike : (engine : Engine) (session : Session) (database : Option (List (List Row))) (left : Option (List ℕ)) (old new : Option (List ℕ)) (before now : Counts) (answer : Answer)
+pub told_alike : (engine : Engine) (session : Session) (database : Option (List (List Row))) (left : Option (List ℕ)) (old new : Option (List ℕ)) (before now : Counts) (answer : Outcome)
     → ((text : List ℕ) (d e : List (List Row)) → OutputsAgree engine.catalog.tables (meta_view engine.meta) session text d e)
     → IfSome left (λ text. Answers engine session database text old new before now answer)
     → IfSome left (λ text. AnswersAlike engine session database text old new before now answer)

@@ -12,7 +12,7 @@ use Rattle.hq_model.specs.Schema.{schema_of}
 use Rattle.hq_model.specs.View.{Agree}
 use Rattle.hq_model.specs.declared.session.Session.{Session}
 use Rattle.hq_model.specs.declared.table.Table.{Table}
-use Rattle.hq_command.specs.Ending.{Answer}
+use Rattle.hq_command.specs.Ending.{Outcome}
 use Rattle.hq_command.specs.Answers.{Answers}
 use Rattle.hq_command.specs.Output.{request_output}
 
@@ -23,6 +23,6 @@ OutputsAgree tables meta session text d e =
     → request_output tables meta session (Some d) text ≡ request_output tables meta session (Some e) text
 
 -- an answer is due over each database that the session cannot tell apart from the one that is told
-abbrev pub AnswersAlike : Engine → Session → Option (List (List Row)) → (text : List ℕ) → (old new : Option (List ℕ)) → (before now : Counts) → Answer → Type 0
+abbrev pub AnswersAlike : Engine → Session → Option (List (List Row)) → (text : List ℕ) → (old new : Option (List ℕ)) → (before now : Counts) → Outcome → Type 0
 AnswersAlike engine session database text old new before now answer =
     IfSome database (λ d. (e : List (List Row)) → engine_agree engine session d e → Answers engine session (Some e) text old new before now answer)

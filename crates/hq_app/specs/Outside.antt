@@ -7,20 +7,20 @@ use Rattle.hq_command_paged.specs.Disks.{SeenDisk, DiskLater}
 use Rattle.hq_command.specs.Ending.{Tells}
 use Rattle.hq_command_serve.specs.Serving.{SeenDoor}
 
--- what a part tells, and how often it has failed
-pub record Seen (A : Type 0) : Type 0 where
+-- what an object of the outside tells, and how often it has failed
+pub record SeenObject (A : Type 0) : Type 0 where
   pub told : Option A
   pub faults : ℕ
 
 -- the parts of a world, what a link of its door tells, and what one of its hall does
 pub record Outside (L T : Type 0) : Type 0 where
-  pub files : Seen (List File)
+  pub files : SeenObject (List File)
   pub door : SeenDoor L
   pub links : Told L
   pub disk : SeenDisk
-  pub input : Seen (List ℕ)
-  pub out : Seen (List ℕ)
-  pub err : Seen (List ℕ)
+  pub input : SeenObject (List ℕ)
+  pub out : SeenObject (List ℕ)
+  pub err : SeenObject (List ℕ)
   pub hall : SeenDoor T
   pub talks : ToldLink T
 

@@ -3,7 +3,7 @@ use Rattle.std.specs.Prelude.{◌≡◌, ◌≢◌, ◌⊎◌, ◌||◌, ℕ, Bo
 use Rattle.hq_io.specs.Causes.{Rose}
 use Rattle.hq_cli.specs.declared.command.Command.{Command}
 use Rattle.hq_cli.specs.declared.command.Command.TheVariants.{Query, Sql, Explain, Confine, Copy, Check, Serve, Live, Gen, Show}
-use Rattle.hq_command.specs.Ending.{Answer, Ends, NotDatabase, Silent, status_of, told_line}
+use Rattle.hq_command.specs.Ending.{Outcome, Ends, NotDatabase, Silent, status_of, told_line}
 use Rattle.hq_command_explain.specs.Explaining.{Explains, explain_output}
 use Rattle.hq_command_confine.specs.Confining.{Confines}
 use Rattle.hq_command_copy.specs.Copying.{copy_output}
@@ -57,7 +57,7 @@ uses_disk command = false
 -- of a copy and a check over told files, of `serve` and `live` over what the directory holds, of `gen`, and of a page. With tables on a disk it is the same where
 -- this tells its bytes. A copy, a check and a page tell no fault, and where no part of a copy is
 -- written, nothing is. Words that ask for no command are bad, unless memory is wanted.
-abbrev pub Runs : {L T : Type 0} → Option Command → (before after : Outside L T) → Answer → Type 0
+abbrev pub Runs : {L T : Type 0} → Option Command → (before after : Outside L T) → Outcome → Type 0
 Runs None before after answer = (answer ≡ Err BadWords) ⊎ (answer ≡ Err Memory)
 Runs (Some (Query dir headers true)) before after answer =
     IfSome before.files.told (λ files. IfSome before.input.told (λ text. Ends before.out.told after.out.told (paged_output before.disk.told dir headers files text) answer))
@@ -88,7 +88,7 @@ Runs (Some (Show page)) before after answer = Ends before.out.told after.out.tol
 -- The status is that of an answer, and standard error has its line. The answer is the one that is due for the command, unless
 -- memory or an object of the outside failed.
 pub record EndsWith {L T : Type 0} (command : Option Command) (before after : Outside L T) (status : ℕ) : Type 0 where
-  pub answer : Answer
+  pub answer : Outcome
   pub status_is : status ≡ status_of answer
   pub line : TellsLine before after (told_line answer)
   pub runs : Runs command before after answer

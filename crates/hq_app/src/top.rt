@@ -1,7 +1,7 @@
 ghost use Rattle.std.specs.Prelude.{◌≡◌, ◌≢◌, ◌⊎◌, ◌≤◌, IsErrOf, IfErr, IfSome, None, Some, true, false};
 ghost use Rattle.hq_io.specs.Causes.{Rose};
 ghost use Rattle.hq_cli.specs.Asked.{HasFewAuthors, command_of};
-ghost use Rattle.hq_command.specs.Ending.{Answer, Silent, Tells, NotDatabase, status_of, told_line};
+ghost use Rattle.hq_command.specs.Ending.{Outcome, Silent, Tells, NotDatabase, status_of, told_line};
 ghost use Rattle.hq_command.specs.Answers.{Answers};
 ghost use Rattle.hq_app.specs.Laws.{AnswersAlike};
 ghost use Rattle.hq_app.specs.Outside.{NoneFell};
@@ -290,14 +290,15 @@ pub fn answer_one<T: Tables, S: Source, K: Sink, E: Sink>(
 
     // The status is that of an answer, and standard error has its line. The answer is the due one unless memory or an object of
     // the outside failed; exactly the text of the request was asked for it, and once.
-    ensures ends { (answer : Answer) × (result ≡ status_of answer)
+    ensures ends { (answer : Outcome) × (result ≡ status_of answer)
         × Tells (E.written err.old) (E.written err.new) (E.faults err.old) (E.faults err.new) (told_line answer)
         × IfSome (S.left input.old) (λ left. Answers engine.now session.now (⟦<SqlDb<T> as Database>⟧.database db.old) left (K.written out.old) (K.written out.new)
         (record { asks = ⟦<SqlDb<T> as Database>⟧.asks db.old; last = ⟦<SqlDb<T> as Database>⟧.last db.old })
         (record { asks = ⟦<SqlDb<T> as Database>⟧.asks db.new; last = ⟦<SqlDb<T> as Database>⟧.last db.new }) answer) }
 
     // Over each database that the session cannot tell apart from this one, the same answer is due.
-    ensures alike { (answer : Answer) × (result ≡ status_of answer) × IfSome (S.left input.old) (λ left. AnswersAlike engine.now session.now (⟦<SqlDb<T> as Database>⟧.database db.old) left (K.written out.old) (K.written out.new)
+    ensures alike { (answer : Outcome) × (result ≡ status_of answer) × IfSome (S.left input.old) (λ left.
+        AnswersAlike engine.now session.now (⟦<SqlDb<T> as Database>⟧.database db.old) left (K.written out.old) (K.written out.new)
         (record { asks = ⟦<SqlDb<T> as Database>⟧.asks db.old; last = ⟦<SqlDb<T> as Database>⟧.last db.old })
         (record { asks = ⟦<SqlDb<T> as Database>⟧.asks db.new; last = ⟦<SqlDb<T> as Database>⟧.last db.new }) answer) }
 

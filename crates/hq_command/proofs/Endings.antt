@@ -24,7 +24,7 @@ use Rattle.hq_request.specs.declared.refusal.RequestRefusal.{RequestRefusal}
 use Rattle.hq_request.specs.declared.refusal.RequestRefusal.TheVariants as request
 use Rattle.hq_command.specs.Refusals.{of_input, of_engine}
 use Rattle.hq_command.specs.Output.{done_by, known_data, reply_output, within_limit, request_output, engine_output, statement_output}
-use Rattle.hq_command.specs.Ending.{Answer, Ends, NotDatabase, Output, TellsDatabase, Writes, WritesPrefix}
+use Rattle.hq_command.specs.Ending.{Outcome, Ends, NotDatabase, Output, TellsDatabase, Writes, WritesPrefix}
 use Rattle.hq_command.specs.Answers.{Answers, AskedBy}
 use Rattle.hq_command.specs.declared.done.Done.{Done}
 use Rattle.hq_command.specs.declared.reply.TheConstants.{INPUT_LIMIT}
@@ -55,7 +55,7 @@ input_asks text before input.Memory = inl (record { asks = refl; last = refl })
 
 -- an input that is not read makes no request
 pub input_answers : (engine : Engine) (session : Session) (database : Option (List (List Row))) (text : List ℕ) (old : Option (List ℕ))
-    (before : Counts) (e : InputRefusal) (a : Answer)
+    (before : Counts) (e : InputRefusal) (a : Outcome)
     → a ≡ Err (of_input e) → ReadsAll INPUT_LIMIT text (Err e)
     → Answers engine session database text old old before before a
 input_answers engine session database text old before e a is h =
@@ -73,7 +73,7 @@ within_short text output short = rw (le-ltb INPUT_LIMIT (length text) short) ref
 
 -- the engine gave no reply
 pub refused_answers : (by : Engine) (session : Session) (database : Option (List (List Row))) (text : List ℕ) (old : Option (List ℕ))
-    (before now : Counts) (e : EngineRefusal) (a : Answer)
+    (before now : Counts) (e : EngineRefusal) (a : Outcome)
     → a ≡ Err (of_engine e) → length text ≤ INPUT_LIMIT
     → Asks {X = Reply} (engine_text by session text) before now (Err e) → Answers by session database text old old before now a
 refused_answers by session database text old before now (engine.Database b c) a is short asked = rw is (record { ends = tt; asked = asked })
@@ -143,7 +143,7 @@ cut_ends old new due body bytes is same h = (is.output, is.is, prefix_known old 
 -- an answer by an engine of these contents is due over them
 pub over_contents : (engine : Engine) (session : Session) (database : Option (List (List Row))) (left : Option (List ℕ))
     (tables : List Table) (meta : MetaTree) (rows : Option (List (List Row))) (old new : Option (List ℕ)) (before now : Counts)
-    (answer : Answer)
+    (answer : Outcome)
     → engine.catalog.tables ≡ tables → meta_view engine.meta ≡ meta → database ≡ rows → IfSome left (λ text. Answers engine session database text old new before now answer)
     → IfSome left (λ text. Ends old new (request_output tables meta session rows text) answer)
 over_contents engine session database None tables meta rows old new before now answer same_tables same_meta same_rows h = tt
@@ -154,7 +154,7 @@ over_contents engine session database (Some text) tables meta rows old new befor
 
 -- the same where the text of a request is told
 pub over_description : (engine : Engine) (session : Session) (left : Option (List ℕ)) (tables : List Table) (meta : MetaTree)
-    (old new : Option (List ℕ)) (answer : Answer)
+    (old new : Option (List ℕ)) (answer : Outcome)
     → engine.catalog.tables ≡ tables → meta_view engine.meta ≡ meta
     → IfSome left (λ text. Ends old new (statement_output engine.catalog.tables (meta_view engine.meta) session text) answer)
     → IfSome left (λ text. Ends old new (statement_output tables meta session text) answer)

@@ -12,7 +12,7 @@ use Rattle.hq_model.specs.Database.{Row}
 use Rattle.hq_model.specs.Meta.{MetaTree, meta_view}
 use Rattle.hq_model.specs.declared.session.Session.{Session}
 use Rattle.hq_model.specs.declared.table.Table.{Table}
-use Rattle.hq_command.specs.Ending.{Answer}
+use Rattle.hq_command.specs.Ending.{Outcome}
 use Rattle.hq_command.specs.Generating.{GenEnds, gen_output, lines_over, reply_length, reply_lines}
 use Rattle.hq_command.specs.declared.done.Done.TheVariants.{Answered}
 use Rattle.hq_command.specs.declared.refusal.Refusal.TheVariants as refusal
@@ -80,11 +80,11 @@ pub gen_wrote : (authors steps : ℕ) (old new : Option (List ℕ)) (text bytes 
     → GenEnds authors old new (Ok Answered)
 gen_wrote authors steps old new text bytes is same h = (steps, (gen_output authors steps, refl, refl, subst (λ (b : List ℕ). Appends old new b) (same ∙ is) h))
 
-pub gen_cut : (authors steps : ℕ) (old new : Option (List ℕ)) (text bytes : List ℕ) (a : Answer) → a ≡ Err refusal.WriteFailed
+pub gen_cut : (authors steps : ℕ) (old new : Option (List ℕ)) (text bytes : List ℕ) (a : Outcome) → a ≡ Err refusal.WriteFailed
     → text ≡ lines_over generated_tables metadata (generated_rows authors) steps → bytes ≡ text → AppendsPrefix old new bytes
     → GenEnds authors old new a
 gen_cut authors steps old new text bytes a failed is same h = rw failed (steps, (gen_output authors steps, refl, subst (λ (b : List ℕ). AppendsPrefix old new b) (same ∙ is) h))
 
 -- want of memory says nothing of what was due
-pub gen_wanting : (authors : ℕ) (old new : Option (List ℕ)) (a : Answer) → a ≡ Err refusal.Memory → GenEnds authors old new a
+pub gen_wanting : (authors : ℕ) (old new : Option (List ℕ)) (a : Outcome) → a ≡ Err refusal.Memory → GenEnds authors old new a
 gen_wanting authors old new a wanting = rw wanting (0, tt {0})

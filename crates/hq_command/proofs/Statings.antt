@@ -19,7 +19,7 @@ use Rattle.hq_io.specs.Streams.{ReadsAll}
 use Rattle.hq_io.specs.declared.files.File.{File}
 use Rattle.hq_session.specs.Sessions.{session_of}
 use Rattle.hq_session.specs.declared.header.Header.{Header}
-use Rattle.hq_command.specs.Ending.{Answer, Output}
+use Rattle.hq_command.specs.Ending.{Outcome, Output}
 use Rattle.hq_command.specs.Output.{line_text, stated_output, statement_output}
 use Rattle.hq_command.specs.Refusals.{of_loading}
 use Rattle.hq_command.specs.Stating.{HasStatementFor, HasStatementOver}
@@ -63,21 +63,21 @@ module _ (engine : Engine) (session : Session) (body : List ℕ) (short : length
 
 -- of all that was read
 pub statement_read : (tables : List Table) (meta : MetaTree) (session : Session) (left : Option (List ℕ)) (body text : List ℕ)
-    (answer : Answer)
+    (answer : Outcome)
     → IfSome left (λ l. ReadsAll INPUT_LIMIT l (Ok body)) → text ≡ body
     → OnOk answer (HasStatementFor tables meta session text) → IfSome left (λ l. OnOk answer (HasStatementFor tables meta session l))
 statement_read tables meta session None body text answer read is has = tt
 statement_read tables meta session (Some l) body text answer read is has = subst (λ t. OnOk answer (HasStatementFor tables meta session t)) (is ∙ read.0) has
 
 -- over what an engine was made of
-pub statement_by : (session : Session) (left : Option (List ℕ)) (tables ts : List Table) (meta m : MetaTree) (answer : Answer) → ts ≡ tables → m ≡ meta
+pub statement_by : (session : Session) (left : Option (List ℕ)) (tables ts : List Table) (meta m : MetaTree) (answer : Outcome) → ts ≡ tables → m ≡ meta
     → IfSome left (λ text. OnOk answer (HasStatementFor ts m session text)) → IfSome left (λ text. OnOk answer (HasStatementFor tables meta session text))
 statement_by session None tables ts meta m answer same_tables same_meta h = tt
 statement_by session (Some text) tables ts meta m answer same_tables same_meta h =
     subst (λ (k : MetaTree). OnOk answer (HasStatementFor tables k session text)) same_meta (subst (λ (k : List Table). OnOk answer (HasStatementFor k m session text)) same_tables h)
 
 -- over what a folder describes
-pub statement_over : (folder : Option (List File)) (dir : List ℕ) (headers : List Header) (d : Described) (session : Session) (left : Option (List ℕ)) (answer : Answer) → session ≡ session_of headers
+pub statement_over : (folder : Option (List File)) (dir : List ℕ) (headers : List Header) (d : Described) (session : Session) (left : Option (List ℕ)) (answer : Outcome) → session ≡ session_of headers
     → IfSome folder (λ fs. description_due fs dir ≡ Ok d) → IfSome left (λ text. OnOk answer (HasStatementFor d.tables d.meta session text))
     → IfSome folder (λ fs. IfSome left (λ text. OnOk answer (HasStatementOver dir headers fs text)))
 statement_over None dir headers d session left answer who holds h = tt

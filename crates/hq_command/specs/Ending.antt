@@ -15,8 +15,8 @@ pub record Output : Type 0 where
   pub bytes : Option (List ℕ)
 
 -- what was written whole, or why not
-abbrev pub Answer : Type 0
-Answer = Result Done Refusal
+abbrev pub Outcome : Type 0
+Outcome = Result Done Refusal
 
 abbrev pub refusal_status : Refusal → ℕ
 refusal_status refusal.BadWords = 2
@@ -32,12 +32,12 @@ abbrev pub done_status : Done → ℕ
 done_status Answered = 0
 done_status Faulty = 1
 
-abbrev pub status_of : Answer → ℕ
+abbrev pub status_of : Outcome → ℕ
 status_of (Ok done) = done_status done
 status_of (Err r) = refusal_status r
 
 -- the line on standard error; nothing where all is done
-abbrev pub told_line : Answer → List ℕ
+abbrev pub told_line : Outcome → List ℕ
 told_line (Ok _) = []
 told_line (Err r) = line_of r
 
@@ -53,7 +53,7 @@ WritesPrefix old new (Some bytes) = AppendsPrefix old new bytes
 
 -- What an answer says of what was due, and of what was written. Want of memory, a failed read and a failed database say
 -- nothing of it; all other refusals are the due ones.
-abbrev pub Ends : (old new : Option (List ℕ)) → (due : Result Output Refusal) → Answer → Type 0
+abbrev pub Ends : (old new : Option (List ℕ)) → (due : Result Output Refusal) → Outcome → Type 0
 Ends old new due (Ok done) = (output : Output) × (due ≡ Ok output) × (output.done ≡ done) × Writes old new output.bytes
 Ends old new due (Err refusal.WriteFailed) = (output : Output) × (due ≡ Ok output) × WritesPrefix old new output.bytes
 Ends old new due (Err refusal.ReadFailed) = ⊤
@@ -62,7 +62,7 @@ Ends old new due (Err (refusal.Database before after)) = ⊤
 Ends old new due (Err r) = due ≡ Err r
 
 -- nothing is written but where all is done, or a write failed
-abbrev pub Silent : {A : Type 0} → (old new : A) → Answer → Type 0
+abbrev pub Silent : {A : Type 0} → (old new : A) → Outcome → Type 0
 Silent old new (Ok _) = ⊤
 Silent old new (Err refusal.WriteFailed) = ⊤
 Silent old new (Err r) = new ≡ old

@@ -11,7 +11,7 @@ use Rattle.hq_model.specs.Database.{Row}
 use Rattle.hq_model.specs.Meta.{MetaTree}
 use Rattle.hq_model.specs.declared.session.Session.{Session}
 use Rattle.hq_model.specs.declared.table.Table.{Table}
-use Rattle.hq_command.specs.Ending.{Answer, Ends, Output}
+use Rattle.hq_command.specs.Ending.{Outcome, Ends, Output}
 use Rattle.hq_command.specs.declared.done.Done.TheVariants.{Answered}
 
 -- how many bytes the body of the due reply has
@@ -31,5 +31,5 @@ abbrev pub gen_output : (authors steps : ℕ) → Output
 gen_output authors steps = record { done = Answered; bytes = Some (lines_over tables metadata (rows authors) steps) }
 
 -- how it ends: with these lines, for some number of comparisons
-abbrev pub GenEnds : (authors : ℕ) → (old new : Option (List ℕ)) → Answer → Type 0
+abbrev pub GenEnds : (authors : ℕ) → (old new : Option (List ℕ)) → Outcome → Type 0
 GenEnds authors old new answer = (steps : ℕ) × Ends old new (Ok (gen_output authors steps)) answer

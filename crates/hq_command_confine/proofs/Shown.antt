@@ -15,7 +15,7 @@ use Rattle.hq_model.specs.declared.table.Table.{Table}
 use Rattle.hq_confine.specs.Verdicts.{YesShowsTheView, told}
 use Rattle.hq_confine.specs.declared.check.Verdict.{Verdict}
 use Rattle.hq_confine.specs.declared.check.Verdict.TheVariants.{Yes, No}
-use Rattle.hq_command.specs.Ending.{Answer, Ends, Output}
+use Rattle.hq_command.specs.Ending.{Outcome, Ends, Output}
 use Rattle.hq_command.specs.Refusals.{of_loading}
 use Rattle.hq_command.specs.declared.done.Done.{Done}
 use Rattle.hq_command.specs.declared.done.Done.TheVariants.{Answered, Faulty}
@@ -63,7 +63,7 @@ module _ (tables : List Table) (meta : MetaTree) (session : Session) where
   nothing_shows text line (Err e) is = tt
 
   -- of all that was read
-  pub read_shows : (left : Option (List ℕ)) (body text : List ℕ) (output : Output) (old new : Option (List ℕ)) (answer : Answer) → IfSome left (λ l. ReadsAll INPUT_LIMIT l (Ok body))
+  pub read_shows : (left : Option (List ℕ)) (body text : List ℕ) (output : Output) (old new : Option (List ℕ)) (answer : Outcome) → IfSome left (λ l. ReadsAll INPUT_LIMIT l (Ok body))
       → text ≡ without_line_end body → TextShows tables meta session text output.done → Ends old new (Ok output) answer
       → IfSome left (λ l. IfOk answer (TextShows tables meta session (without_line_end l)))
   read_shows None body text output old new answer read is shows ends = tt
@@ -79,7 +79,7 @@ described_or other (Ok d) = d
 described_or other (Err e) = other
 
 -- over what a folder describes
-pub folder_shows : (folder : Option (List File)) (dir : List ℕ) (headers : List Header) (d : Described) (session : Session) (left : Option (List ℕ)) (answer : Answer)
+pub folder_shows : (folder : Option (List File)) (dir : List ℕ) (headers : List Header) (d : Described) (session : Session) (left : Option (List ℕ)) (answer : Outcome)
     → session ≡ session_of headers
     → IfSome folder (λ fs. description_due fs dir ≡ Ok d) → IfSome left (λ l. IfOk answer (TextShows d.tables d.meta session (without_line_end l)))
     → IfSome folder (λ fs. IfSome left (λ l. IfOk answer (InputShows dir headers fs l)))

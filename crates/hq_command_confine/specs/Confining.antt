@@ -15,7 +15,7 @@ use Rattle.hq_sql_tree.specs.WellFormed.{is_statement}
 use Rattle.hq_sql_text.specs.Readable.{Spells}
 use Rattle.hq_confine_rules.specs.Faults.{faults, worst}
 use Rattle.hq_confine_rules.specs.Uses.{Fault}
-use Rattle.hq_command.specs.Ending.{Answer, Output, Writes, WritesPrefix}
+use Rattle.hq_command.specs.Ending.{Outcome, Output, Writes, WritesPrefix}
 use Rattle.hq_command.specs.Refusals.{description_of}
 use Rattle.hq_command.specs.declared.done.Done.{Done}
 use Rattle.hq_command.specs.declared.done.Done.TheVariants.{Answered, Faulty}
@@ -77,7 +77,7 @@ IsConfineDue dir headers files input due = IsDueBehind headers input (descriptio
 
 -- What an answer says of what was due, and of what was written. Want of memory, a failed read and a failed database say nothing of it;
 -- all other refusals are due ones.
-abbrev pub EndsBy : (IsDue : Result Output Refusal → Type 0) → (old new : Option (List ℕ)) → Answer → Type 0
+abbrev pub EndsBy : (IsDue : Result Output Refusal → Type 0) → (old new : Option (List ℕ)) → Outcome → Type 0
 EndsBy IsDue old new (Ok done) = (output : Output) × IsDue (Ok output) × (output.done ≡ done) × Writes old new output.bytes
 EndsBy IsDue old new (Err refusal.WriteFailed) = (output : Output) × IsDue (Ok output) × WritesPrefix old new output.bytes
 EndsBy IsDue old new (Err refusal.ReadFailed) = ⊤
@@ -86,5 +86,5 @@ EndsBy IsDue old new (Err (refusal.Database before after)) = ⊤
 EndsBy IsDue old new (Err r) = IsDue (Err r)
 
 -- over a directory
-abbrev pub Confines : (dir : List ℕ) → List Header → List File → (input : List ℕ) → (old new : Option (List ℕ)) → Answer → Type 0
+abbrev pub Confines : (dir : List ℕ) → List Header → List File → (input : List ℕ) → (old new : Option (List ℕ)) → Outcome → Type 0
 Confines dir headers files input old new answer = EndsBy (IsConfineDue dir headers files input) old new answer

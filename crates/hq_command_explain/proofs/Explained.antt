@@ -15,7 +15,7 @@ use Rattle.hq_session.specs.declared.header.Header.{Header}
 use Rattle.hq_model.specs.Meta.{MetaTree}
 use Rattle.hq_model.specs.declared.session.Session.{Session}
 use Rattle.hq_model.specs.declared.table.Table.{Table}
-use Rattle.hq_command.specs.Ending.{Answer, Output}
+use Rattle.hq_command.specs.Ending.{Outcome, Output}
 use Rattle.hq_command.specs.Output.{within_limit}
 use Rattle.hq_command.specs.Refusals.{of_loading}
 use Rattle.hq_command.specs.declared.refusal.Refusal.{Refusal}
@@ -37,7 +37,7 @@ module _ (tables : List Table) (meta : MetaTree) (session : Session) (body : Lis
   fault_is_due f is = due_is (Err (request.Fault f)) is
 
 -- the same over what an engine was made of
-pub over_loaded : (session : Session) (left : Option (List ℕ)) (tables ts : List Table) (meta m : MetaTree) (old new : Option (List ℕ)) (answer : Answer) → ts ≡ tables → m ≡ meta
+pub over_loaded : (session : Session) (left : Option (List ℕ)) (tables ts : List Table) (meta m : MetaTree) (old new : Option (List ℕ)) (answer : Outcome) → ts ≡ tables → m ≡ meta
     → IfSome left (λ text. Explains old new (input_explained ts m session text) answer) → IfSome left (λ text. Explains old new (input_explained tables meta session text) answer)
 over_loaded session None tables ts meta m old new answer same_tables same_meta h = tt
 over_loaded session (Some text) tables ts meta m old new answer same_tables same_meta h =
@@ -46,7 +46,7 @@ over_loaded session (Some text) tables ts meta m old new answer same_tables same
 
 -- what is told of all that was read is told of what was left
 pub read_told : (left : Option (List ℕ)) (body bytes : List ℕ) (due : List ℕ → Result Output Refusal) (old new : Option (List ℕ))
-    (answer : Answer)
+    (answer : Outcome)
     → IfSome left (λ l. ReadsAll INPUT_LIMIT l (Ok body)) → bytes ≡ body
     → Explains old new (due bytes) answer → IfSome left (λ l. Explains old new (due l) answer)
 read_told None body bytes due old new answer read same told = tt
@@ -54,7 +54,7 @@ read_told (Some l) body bytes due old new answer read same told = subst (λ (b :
 
 -- the same over what a folder holds, where it is loaded
 over_held : (due : Result Contents Refusal) (headers : List Header) (held : Contents) (session : Session) (left : Option (List ℕ))
-    (old new : Option (List ℕ)) (answer : Answer)
+    (old new : Option (List ℕ)) (answer : Outcome)
     → due ≡ Ok held → session ≡ session_of headers
     → IfSome left (λ text. Explains old new (input_explained held.tables held.meta session text) answer)
     → IfSome left (λ text. Explains old new (due >>= λ c. input_explained c.tables c.meta (session_of headers) text) answer)
@@ -64,7 +64,7 @@ over_held due headers held session (Some text) old new answer is who told =
     (subst (λ (s : Session). Explains old new (input_explained held.tables held.meta s text) answer) who told)
 
 pub over_folder : (folder : Option (List File)) (dir : List ℕ) (headers : List Header) (held : Contents) (session : Session)
-    (left : Option (List ℕ)) (old new : Option (List ℕ)) (answer : Answer)
+    (left : Option (List ℕ)) (old new : Option (List ℕ)) (answer : Outcome)
     → session ≡ session_of headers
     → IfSome folder (λ fs. loading_due fs dir ≡ Ok held) → IfSome left (λ text. Explains old new (input_explained held.tables held.meta session text) answer)
     → IfSome folder (λ fs. IfSome left (λ text. Explains old new (explain_output dir headers fs text) answer))

@@ -11,10 +11,10 @@ use Rattle.hq_request.specs.declared.refusal.RequestRefusal.{RequestRefusal}
 use Rattle.hq_request.specs.declared.refusal.RequestRefusal.TheVariants as request
 use Rattle.hq_session.specs.Sessions.{session_of}
 use Rattle.hq_session.specs.declared.header.Header.{Header}
-use Rattle.hq_model.specs.Meta.{MetaTree, meta_view}
+use Rattle.hq_model.specs.Meta.{MetaTree}
 use Rattle.hq_model.specs.declared.session.Session.{Session}
 use Rattle.hq_model.specs.declared.table.Table.{Table}
-use Rattle.hq_command.specs.Ending.{Answer, Ends, Output}
+use Rattle.hq_command.specs.Ending.{Outcome, Ends, Output}
 use Rattle.hq_command.specs.Output.{within_limit}
 use Rattle.hq_command.specs.Refusals.{contents_due}
 use Rattle.hq_command.specs.declared.done.Done.TheVariants.{Answered, Faulty}
@@ -46,11 +46,11 @@ abbrev pub with_words : (words : List ℕ) → Output → Output
 with_words words o = record { done = o.done; bytes = option_map (λ front. front ++ words) o.bytes }
 
 -- how it ends: what is due was written with some words behind it
-abbrev pub Explains : (old new : Option (List ℕ)) → (due : Result Output Refusal) → Answer → Type 0
+abbrev pub Explains : (old new : Option (List ℕ)) → (due : Result Output Refusal) → Outcome → Type 0
 Explains old new due answer = (words : List ℕ) × Ends old new (mapped (with_words words) due) answer
 
 -- nothing is written but where all is done, a write failed, or a file is refused
-abbrev pub SilentButOfFiles : {A : Type 0} → (old new : A) → Answer → Type 0
+abbrev pub SilentButOfFiles : {A : Type 0} → (old new : A) → Outcome → Type 0
 SilentButOfFiles old new (Ok _) = ⊤
 SilentButOfFiles old new (Err refusal.WriteFailed) = ⊤
 SilentButOfFiles old new (Err (refusal.File file fault)) = ⊤

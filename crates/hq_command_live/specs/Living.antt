@@ -10,7 +10,7 @@ use Rattle.hq_live_serve.specs.Serving.{ServesTalks}
 use Rattle.hq_laws_live.specs.Worlds.{due_over}
 use Rattle.hq_load.specs.Loading.{Contents}
 use Rattle.hq_live_asker.specs.Asker.{next_of}
-use Rattle.hq_command.specs.Ending.{Answer}
+use Rattle.hq_command.specs.Ending.{Outcome}
 use Rattle.hq_command_serve.specs.Serving.{SeenDoor, EndsOver}
 
 -- Live queries as they begin over what a directory holds: the replies over its rows are due, each reload takes the rows of its table
@@ -34,5 +34,5 @@ module _ {L : Type 0} (t : ToldLink L) (rule : SecretRule) (connections : ℕ) (
       pub talks : TalksFrom first result
 
     -- the lines of the talks that were held were written, all of them at 0
-    abbrev pub LiveEnds : Answer → Type 0
+    abbrev pub LiveEnds : Outcome → Type 0
     LiveEnds answer = EndsOver before after old new TalksOver files dir answer

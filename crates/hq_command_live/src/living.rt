@@ -71,9 +71,11 @@ fn live_instance<F: Files, H: Hall, K: Sink>(
     out: &mut K,
 ) -> WithFiles<F, Result<(), ServeRefusal>>
     requires { ⟦<SqlDb<MemTables> as Database>⟧.tables instance.db ≡ instance.engine.catalog.tables }
-    ensures opens { OpensOver (seen_door (H.talks hall.old) (H.accepted hall.old) (H.faults hall.old)) (seen_door (H.talks hall.new) (H.accepted hall.new) (H.faults hall.new)) (K.written out.old) (K.written out.new)
+    ensures opens { let before = seen_door (H.talks hall.old) (H.accepted hall.old) (H.faults hall.old) in
+        let after = seen_door (H.talks hall.new) (H.accepted hall.new) (H.faults hall.new) in
+        OpensOver before after (K.written out.old) (K.written out.new)
         (TalksFrom (record { left = H.Talk.left; sent = H.Talk.sent; faults = H.Talk.faults }) rule.now connections
-        (seen_door (H.talks hall.old) (H.accepted hall.old) (H.faults hall.old)) (seen_door (H.talks hall.new) (H.accepted hall.new) (H.faults hall.new)) (K.written out.old) (K.written out.new)
+        before after (K.written out.old) (K.written out.new)
         (standing (due_of instance.engine.catalog.tables (meta_view instance.engine.meta) (⟦<SqlDb<MemTables> as Database>⟧.database instance.db))
         (next_of instance.engine.catalog.tables (meta_view instance.engine.meta) (F.folder files) dir) (sum (F.faults files) 0) [])) result.answer }
     ensures hall { IsErrOf result.answer ServeRefusal.DoorFailed → Rose (H.faults hall.old) (H.faults hall.new) }
@@ -112,9 +114,11 @@ fn live_loaded<F: Files, H: Hall, K: Sink>(
     hall: &mut H,
     out: &mut K,
 ) -> WithFiles<F, Result<(), ServeRefusal>>
-    ensures opens { OpensOver (seen_door (H.talks hall.old) (H.accepted hall.old) (H.faults hall.old)) (seen_door (H.talks hall.new) (H.accepted hall.new) (H.faults hall.new)) (K.written out.old) (K.written out.new)
+    ensures opens { let before = seen_door (H.talks hall.old) (H.accepted hall.old) (H.faults hall.old) in
+        let after = seen_door (H.talks hall.new) (H.accepted hall.new) (H.faults hall.new) in
+        OpensOver before after (K.written out.old) (K.written out.new)
         (TalksOver (record { left = H.Talk.left; sent = H.Talk.sent; faults = H.Talk.faults }) rule.now connections
-        (seen_door (H.talks hall.old) (H.accepted hall.old) (H.faults hall.old)) (seen_door (H.talks hall.new) (H.accepted hall.new) (H.faults hall.new)) (K.written out.old) (K.written out.new)
+        before after (K.written out.old) (K.written out.new)
         (F.folder files) dir (contents loaded.catalog.tables (meta_view loaded.meta) loaded.rows)) result.answer }
     ensures hall { IsErrOf result.answer ServeRefusal.DoorFailed → Rose (H.faults hall.old) (H.faults hall.new) }
     ensures write { IsErrOf result.answer ServeRefusal.WriteFailed → Rose (K.faults out.old) (K.faults out.new) }

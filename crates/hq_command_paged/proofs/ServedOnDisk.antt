@@ -14,7 +14,7 @@ use Rattle.hq_serve.specs.Serving.{Told}
 use Rattle.hq_serve.specs.declared.serving.ServeRefusal.{ServeRefusal}
 use Rattle.hq_session.specs.declared.secret.SecretRule.{SecretRule}
 use Rattle.hq_command.specs.Answers.{Answers}
-use Rattle.hq_command.specs.Ending.{Answer, Ends}
+use Rattle.hq_command.specs.Ending.{Outcome, Ends}
 use Rattle.hq_command.specs.Output.{request_output}
 use Rattle.hq_command.specs.Refusals.{of_pages}
 use Rattle.hq_command_serve.specs.Serving.{SeenDoor, Untouched, answer_of, OpensOver, EndsOver}
@@ -31,7 +31,7 @@ rows_same (Some old) (Some new) rows same = refl
 
 -- an answer over rows on a disk, by an engine of these contents, is due over them
 pub over_disk : (engine : Engine) (session : Session) (database : Option (List (List Row))) (left : Option (List ℕ)) (tables : List Table)
-    (meta : MetaTree) (rows : Option (List (List Row))) (old new : Option (List ℕ)) (before now : Counts) (answer : Answer)
+    (meta : MetaTree) (rows : Option (List (List Row))) (old new : Option (List ℕ)) (before now : Counts) (answer : Outcome)
     → engine.catalog.tables ≡ tables → meta_view engine.meta ≡ meta → database ≡ rows → IfSome left (λ text. Answers engine session database text old new before now answer)
     → IfSome left (λ text. Ends old new (request_output tables meta session rows text) answer)
 over_disk engine session database None tables meta rows old new before now answer same_tables same_meta same_rows h = tt
@@ -42,7 +42,7 @@ over_disk engine session database (Some text) tables meta rows old new before no
 
 -- a directory whose tables are not on the disk is not served
 pub pages_refused : {L : Type 0} (before after : SeenDoor L) (old new : Option (List ℕ))
-    (over : Contents → Result (Unit {0}) ServeRefusal → Type 0) (files : Option (List File)) (dir : List ℕ) (e : PageRefusal) (a : Answer)
+    (over : Contents → Result (Unit {0}) ServeRefusal → Type 0) (files : Option (List File)) (dir : List ℕ) (e : PageRefusal) (a : Outcome)
     → a ≡ Err (of_pages e) → Untouched before after old new → EndsOver before after old new over files dir a
 pages_refused before after old new over files dir pages.Failed a is u = rw is (inl u)
 pages_refused before after old new over files dir pages.Memory a is u = rw is (inl u)
@@ -65,7 +65,7 @@ from_same t rule n before after old new disk left first held ts m database resul
 -- how a run ends that serves over tables on a disk
 pub ends_on_disk : {L : Type 0} (t : Told L) (rule : SecretRule) (n : ℕ) (before after : SeenDoor L) (old new : Option (List ℕ))
     (disk left : SeenDisk) (files : Option (List File)) (dir : List ℕ) (held : Contents)
-    (first : ℕ) (ts : List Table) (m : MetaTree) (database : Option (List (List Row))) (result : Result (Unit {0}) ServeRefusal) (a : Answer)
+    (first : ℕ) (ts : List Table) (m : MetaTree) (database : Option (List (List Row))) (result : Result (Unit {0}) ServeRefusal) (a : Outcome)
     → IfSome files (λ fs. loading_due fs dir ≡ Ok held) → ts ≡ held.tables → m ≡ held.meta → database ≡ told_rows disk.told held.rows → disk.faults ≤ first → a ≡ answer_of result
     → OpensOver before after old new (ServesFrom t rule n before after old new first left ts m database) result → PagedServeEnds t rule n before after old new disk left files dir a
 ends_on_disk t rule n before after old new disk left files dir held first ts m database result a holds same_tables same_meta told begins is s =

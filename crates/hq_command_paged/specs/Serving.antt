@@ -8,7 +8,7 @@ use Rattle.hq_session.specs.declared.secret.SecretRule.{SecretRule}
 use Rattle.hq_model.specs.Database.{Row}
 use Rattle.hq_model.specs.Meta.{MetaTree}
 use Rattle.hq_model.specs.declared.table.Table.{Table}
-use Rattle.hq_command.specs.Ending.{Answer}
+use Rattle.hq_command.specs.Ending.{Outcome}
 use Rattle.hq_command_serve.specs.Serving.{SeenDoor, ServesTables, EndsOver}
 use Rattle.hq_command_paged.specs.Disks.{SeenDisk, told_rows}
 
@@ -25,5 +25,5 @@ module _ {L : Type 0} (t : Told L) (rule : SecretRule) (connections : ℕ) (befo
     pub begins : disk.faults ≤ first
     pub serves : ServesFrom first left held.tables held.meta (told_rows disk.told held.rows) result
 
-  abbrev pub PagedServeEnds : (disk left : SeenDisk) → Option (List File) → (dir : List ℕ) → Answer → Type 0
+  abbrev pub PagedServeEnds : (disk left : SeenDisk) → Option (List File) → (dir : List ℕ) → Outcome → Type 0
   PagedServeEnds disk left files dir answer = EndsOver before after old new (ServesOnDisk disk left) files dir answer

@@ -14,7 +14,7 @@ use Rattle.hq_serve.specs.Serving.{Told, Serves}
 use Rattle.hq_serve.specs.declared.serving.ServeRefusal.{ServeRefusal}
 use Rattle.hq_serve.specs.declared.serving.ServeRefusal.TheVariants as serve
 use Rattle.hq_session.specs.declared.secret.SecretRule.{SecretRule}
-use Rattle.hq_command.specs.Ending.{Answer}
+use Rattle.hq_command.specs.Ending.{Outcome}
 use Rattle.hq_command.specs.Refusals.{contents_due, of_loading}
 use Rattle.hq_command_serve.specs.Serving.{SeenDoor, Untouched, answer_of, ServesTables, OpensOver, ServesDirectory, EndsOver}
 use Rattle.hq_command.specs.declared.refusal.Refusal.TheVariants as refusal
@@ -59,7 +59,7 @@ module _ {L : Type 0} (before after : SeenDoor L) (old new : Option (List ℕ)) 
 
   module _ (over : Contents → Result (Unit {0}) ServeRefusal → Type 0) (files : Option (List File)) (dir : List ℕ) where
     -- a directory that is not loaded is not served
-    pub load_refused : (e : LoadingRefusal) (a : Answer) → a ≡ Err (of_loading e)
+    pub load_refused : (e : LoadingRefusal) (a : Outcome) → a ≡ Err (of_loading e)
         → IfSome files (λ fs. GivesUnless {X = Loaded} loaded_view loading.Memory loading.Failed (loading_due fs dir) (Err e))
         → Untouched before after old new → EndsOver before after old new over files dir a
     load_refused (loading.File file fault) a is h u = rw is (u, refused_due files dir file fault h)
@@ -71,7 +71,7 @@ module _ {L : Type 0} (before after : SeenDoor L) (old new : Option (List ℕ)) 
       directory : (result : Result (Unit {0}) ServeRefusal) → over held result → ServesDirectory before after old new over files dir result
       directory result s = record { held = held; holds = held_due files dir held holds; serves = s }
 
-      pub ends_as : (result : Result (Unit {0}) ServeRefusal) (a : Answer) → a ≡ answer_of result → OpensOver before after old new (over held) result → EndsOver before after old new over files dir a
+      pub ends_as : (result : Result (Unit {0}) ServeRefusal) (a : Outcome) → a ≡ answer_of result → OpensOver before after old new (over held) result → EndsOver before after old new over files dir a
       ends_as (Ok done) a is s = rw is (directory (Ok tt) s)
       ends_as (Err serve.WriteFailed) a is s = rw is (directory (Err serve.WriteFailed) s)
       ends_as (Err serve.DoorFailed) a is (inl u) = rw is (inl u)

@@ -10,7 +10,7 @@ use Rattle.hq_session.specs.declared.secret.SecretRule.{SecretRule}
 use Rattle.hq_model.specs.Database.{Row}
 use Rattle.hq_model.specs.Meta.{MetaTree}
 use Rattle.hq_model.specs.declared.table.Table.{Table}
-use Rattle.hq_command.specs.Ending.{Answer}
+use Rattle.hq_command.specs.Ending.{Outcome}
 use Rattle.hq_command.specs.Refusals.{contents_due, of_serving}
 use Rattle.hq_command.specs.declared.done.Done.TheVariants.{Answered, Faulty}
 use Rattle.hq_command.specs.declared.refusal.Refusal.TheVariants as refusal
@@ -25,7 +25,7 @@ abbrev pub seen_door : {L : Type 0} → (links : Option (List L)) → (accepted 
 seen_door links accepted faults = record { links = links; accepted = accepted; faults = faults }
 
 -- how serving ends the program
-abbrev pub answer_of : Result (Unit {0}) ServeRefusal → Answer
+abbrev pub answer_of : Result (Unit {0}) ServeRefusal → Outcome
 answer_of (Ok done) = Ok Answered
 answer_of (Err e) = Err (of_serving e)
 
@@ -51,7 +51,7 @@ module _ {L : Type 0} (before after : SeenDoor L) (old new : Option (List ℕ)) 
 
   -- The lines of the connections that were served were written, all of them at 0; a refused file is the first, and nothing was
   -- done then. Nothing else comes.
-  abbrev pub EndsOver : (Contents → Result (Unit {0}) ServeRefusal → Type 0) → Option (List File) → (dir : List ℕ) → Answer → Type 0
+  abbrev pub EndsOver : (Contents → Result (Unit {0}) ServeRefusal → Type 0) → Option (List File) → (dir : List ℕ) → Outcome → Type 0
   EndsOver over files dir (Ok Answered) = ServesDirectory over files dir (Ok tt)
   EndsOver over files dir (Ok Faulty) = ⊥
   EndsOver over files dir (Err refusal.WriteFailed) = ServesDirectory over files dir (Err serve.WriteFailed)
@@ -74,5 +74,5 @@ module _ {L : Type 0} (t : Told L) (rule : SecretRule) (connections : ℕ) (befo
   abbrev pub ServesOver : Contents → Result (Unit {0}) ServeRefusal → Type 0
   ServesOver held result = ServesTables 0 0 held.tables held.meta (Some held.rows) result
 
-  abbrev pub ServeEnds : Option (List File) → (dir : List ℕ) → Answer → Type 0
+  abbrev pub ServeEnds : Option (List File) → (dir : List ℕ) → Outcome → Type 0
   ServeEnds files dir answer = EndsOver before after old new ServesOver files dir answer

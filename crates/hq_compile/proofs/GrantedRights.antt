@@ -14,7 +14,7 @@ use Rattle.hq_model.specs.declared.role.Role.{Role}
 use Rattle.hq_model.specs.declared.table.Table.{Table}
 use Rattle.hq_model.proofs.Places.{at_0}
 use Rattle.hq_request_tree.specs.Request.{BoundTree, AskTree, bound_table, with_bound, grant_in, grants_in}
-use Rattle.hq_translation.specs.Rights.{rights_of}
+use Rattle.hq_translation.specs.GrantedTables.{rights_of}
 use Rattle.hq_compile_tables.specs.Contexts.{rights_in}
 use Rattle.hq_compile_tables.specs.declared.context.Granted.{Granted}
 use Rattle.hq_compile.specs.GrantedTrees.{GrantedTree, granted_view, granted_under, granted_for, granted_all}

@@ -16,7 +16,7 @@ use Rattle.hq_translation.specs.Looks.{Look}
 use Rattle.hq_translation.specs.Masks.{filter_predicate, masks, shown_look, value_output}
 use Rattle.hq_translation.specs.Names.{join_alias}
 use Rattle.hq_translation.specs.Predicates.{link}
-use Rattle.hq_translation.specs.Rights.{Rights}
+use Rattle.hq_translation.specs.GrantedTables.{GrantedTables}
 use Rattle.hq_translation.specs.Selects.{behind_filter, filter_from}
 use Rattle.hq_compile_tables.specs.Selects.{first_row}
 use Rattle.hq_compile_tables.specs.Shown.{look_in}
@@ -26,7 +26,7 @@ use Rattle.hq_compile_tables.specs.declared.shown.MaskPlace.{MaskPlace}
 abbrev pub join_of : SelectTree → (n : ℕ) → JoinTree
 join_of select n = record { select = select; alias = join_alias n }
 
-module _ (s : Schema) (g : Rights) (fs : FieldTrees) where
+module _ (s : Schema) (g : GrantedTables) (fs : FieldTrees) where
   -- the join of the object of fields at the first row of table u, at the alias of number n, their numbers from m on
   abbrev pub first_at : (u n m : ℕ) → Look → (joins : List JoinTree) → (members : List PredTree) → JoinTree
   first_at u n m look joins members =
@@ -88,7 +88,7 @@ module _ (s : Schema) (g : Rights) (fs : FieldTrees) where
     list_of next u n m outs cs look pairs joins tie select join is select-is pairs-is joins-is look-is m-is tie-is cs-is outs-is u-is n-is =
         rw (is, select-is, pairs-is, joins-is, look-is, m-is, tie-is, cs-is, outs-is, u-is, n-is) refl
 
-module _ (s : Schema) (g : Rights) (o : Origin) (a : ListArguments) (fs : List KeyedAggField) (t p : ℕ) where
+module _ (s : Schema) (g : GrantedTables) (o : Origin) (a : ListArguments) (fs : List KeyedAggField) (t p : ℕ) where
   -- an aggregate
   pub summary_of : (next u n : ℕ) (gs : List KeyedAggField) (tie : PredTree) (select : SelectTree) (join : JoinTree)
       → join ≡ join_of select n → select ≡ summary_select gs s g u a n tie → gs ≡ fs → tie ≡ origin_tie o s t p n → u ≡ origin_table o s t → n ≡ next

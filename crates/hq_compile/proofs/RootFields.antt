@@ -7,7 +7,7 @@ use Rattle.hq_request_tree.specs.declared.field.KeyedAskField.{KeyedAskField}
 use Rattle.hq_sql_tree.specs.Tree.{JoinTree, PairTree}
 use Rattle.hq_translation.specs.Fields.{field_numbers, field_joins, field_value, fields_numbers, fields_values, fields_joins}
 use Rattle.hq_translation.specs.Looks.{own_look}
-use Rattle.hq_translation.specs.Rights.{Rights}
+use Rattle.hq_translation.specs.GrantedTables.{GrantedTables}
 use Rattle.hq_compile.specs.Fields.{fields_view}
 
 -- one more item of a list whose items have numbers: what its items give, one after the other
@@ -16,7 +16,7 @@ pub one_more : {A B : Type 0} (F : List A → ℕ → List B) (one : A → ℕ �
 one_more F one k step xs rest x here old new whole n m new-is m-is so_far =
     rw (new-is, m-is) (append_assoc old (one x n) (F rest (n + k x)) ∙ ap (λ ys. old ++ ys) (sym (step x rest n)) ∙ ap (λ ys. old ++ F ys n) (sym here) ∙ so_far)
 
-module _ (s : Schema) (g : Rights) (root : ℕ) where
+module _ (s : Schema) (g : GrantedTables) (root : ℕ) where
   -- the values of root fields, which stand at no table
   abbrev pub root_values : FieldTrees → (n : ℕ) → List PairTree
   root_values fs n = fields_values fs s g (own_look (table s root).columns 0) root n

@@ -4,7 +4,7 @@ ghost use Rattle.hq_model.specs.Meta.{meta_view};
 ghost use Rattle.hq_model.specs.Schema.{schema_of};
 ghost use Rattle.hq_model.specs.Permission.{option_list};
 ghost use Rattle.hq_request_tree.specs.Request.{ask_view, bound_view, grants_in};
-ghost use Rattle.hq_translation.specs.Rights.{rights_of};
+ghost use Rattle.hq_translation.specs.GrantedTables.{rights_of};
 ghost use Rattle.hq_compile_tables.specs.Contexts.{rights_in};
 ghost use Rattle.hq_model_limits.specs.Limits.{rows_of};
 ghost use Rattle.hq_compile.specs.GrantedTrees.{granted_view, granted_with, granted_for, granted_all};

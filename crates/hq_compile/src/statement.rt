@@ -29,7 +29,7 @@ use hq_base::Memory;
 use hq_compile_lists::{object, one_row};
 use hq_compile_tables::Context;
 use hq_laws_confine::session_statements_are_confined;
-use hq_model::{Catalog, Meta, Scope, TableId};
+use hq_model::{Catalog, Described, Meta, TableId};
 use hq_request_tree::{Ask, AskFields};
 use hq_sql_tree::Select;
 use hq_translation::{requests_are_asked, requests_mean_resolved};
@@ -64,7 +64,7 @@ fn asked(alloc: Global, ask: &Ask, catalog: &Catalog, meta: &Meta) -> Result<Sel
 {
     let granted = granted(alloc, ask, catalog, meta)?;
     let context = Context {
-        scope: Scope { catalog, meta },
+        scope: Described { catalog, meta },
         granted: &granted,
     };
     let root = TableId::new(catalog.tables.len());

@@ -8,7 +8,7 @@ use Rattle.hq_translation.specs.Conditions.{joined_by_and, with_member}
 use Rattle.hq_translation.specs.Fields.{key_members}
 use Rattle.hq_translation.specs.Looks.{Look}
 use Rattle.hq_translation.specs.Masks.{shown_look, filter_predicate}
-use Rattle.hq_translation.specs.Rights.{Rights}
+use Rattle.hq_translation.specs.GrantedTables.{GrantedTables}
 use Rattle.hq_translation.specs.Selects.{filter_from}
 use Rattle.hq_compile_tables.specs.Shown.{look_in, look_of}
 use Rattle.hq_compile_tables.specs.declared.shown.MaskPlace.{MaskPlace}
@@ -24,7 +24,7 @@ key_members_as x columns n places key known vs c k p e =
     ∙ ap (λ (cs : List ℕ). key_members columns (look_in places columns n) cs vs) e
 
 -- what the row meets, at its number: the key's columns as they are shown
-pub keyed_at : (s : Schema) (g : Rights) (t n m next : ℕ) (cs : List ℕ) (places : List MaskPlace) (vs : List Val) (ps : List PredTree)
+pub keyed_at : (s : Schema) (g : GrantedTables) (t n m next : ℕ) (cs : List ℕ) (places : List MaskPlace) (vs : List Val) (ps : List PredTree)
     → ps ≡ with_member (joined_by_and (key_members (table s t).columns (look_in places (table s t).columns n) (table s t).key vs)) (with_member (filter_predicate s g t n m) [])
     → n ≡ next → look_in places (table s t).columns next ≡ shown_look s g t cs next → m ≡ filter_from s g t cs next
     → ps ≡ with_member (joined_by_and (key_members (table s t).columns (shown_look s g t cs next) (table s t).key vs)) (with_member (filter_predicate s g t next (filter_from s g t cs next)) [])

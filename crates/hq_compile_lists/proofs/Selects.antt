@@ -11,7 +11,7 @@ use Rattle.hq_translation.specs.Looks.{Look}
 use Rattle.hq_translation.specs.Masks.{extra, masks, shown_look, filter_numbers, filter_predicate, where_mode}
 use Rattle.hq_translation.specs.Names.{table_alias, fold_alias, value_name}
 use Rattle.hq_translation.specs.Predicates.{predicate}
-use Rattle.hq_translation.specs.Rights.{Rights}
+use Rattle.hq_translation.specs.GrantedTables.{GrantedTables}
 use Rattle.hq_translation.specs.Sorts.{sorts_joins, orders, key_outputs, output_orders}
 use Rattle.hq_compile_tables.specs.Shown.{look_in, look_of}
 use Rattle.hq_compile_tables.specs.declared.shown.MaskPlace.{MaskPlace}
@@ -25,7 +25,7 @@ distinct_as x columns n places ds c k p =
     ∙ ap (λ (m : ℕ). distinct_columns x.columns.now (look_in places x.columns.now m) ds) k
     ∙ ap (λ (cs : List Column). distinct_columns cs (look_in places cs n) ds) c
 
-module _ (s : Schema) (g : Rights) (t : ℕ) (cs : List ℕ) (a : ListArguments) (n : ℕ) (tie : PredTree) where
+module _ (s : Schema) (g : GrantedTables) (t : ℕ) (cs : List ℕ) (a : ListArguments) (n : ℕ) (tie : PredTree) where
   -- the members of WHERE, their numbers from m on, where columns are looked at so
   abbrev pub members_at : Look → (m : ℕ) → List PredTree
   members_at look m =

@@ -8,7 +8,7 @@ use Rattle.hq_translation.specs.Looks.{cell_at}
 use Rattle.hq_translation.specs.Masks.{value_output, masks, shown_look, filter_predicate}
 use Rattle.hq_translation.specs.Names.{join_alias}
 use Rattle.hq_translation.specs.Predicates.{link}
-use Rattle.hq_translation.specs.Rights.{Rights}
+use Rattle.hq_translation.specs.GrantedTables.{GrantedTables}
 use Rattle.hq_translation.specs.Selects.{filter_from, behind_filter}
 use Rattle.hq_translation.specs.Sorts.{last_used, sort_place, sort_joins}
 use Rattle.hq_compile_tables.specs.Selects.{first_row}
@@ -20,7 +20,7 @@ pub first_and_rest : (rs : List ℕ) (r : ℕ) → 1 ≤ length rs → r ≡ get
 first_and_rest [] r h e = absurd (omega (arith, h))
 first_and_rest (q ∷ rs) r h e = ap (λ (qs : List ℕ). r ∷ qs) (take_all (length (q ∷ rs) - 1) rs (omega arith)) ∙ ap (λ (k : ℕ). k ∷ rs) e
 
-module _ (s : Schema) (g : Rights) (t p r c next : ℕ) (rest : List ℕ) where
+module _ (s : Schema) (g : GrantedTables) (t p r c next : ℕ) (rest : List ℕ) where
   -- the parts by the names that they have in the code
   pub step_of : (v n m : ℕ) (cs : List ℕ) (places : List MaskPlace) (all joins inner : List JoinTree) (members : List PredTree) (outs : List OutTree)
       → all ≡ record { select = first_row s v n outs (joins ++ inner) (where_of members); alias = join_alias n } ∷ []

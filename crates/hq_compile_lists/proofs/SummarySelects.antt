@@ -10,7 +10,7 @@ use Rattle.hq_translation.specs.Lists.{list_used, list_rows}
 use Rattle.hq_translation.specs.Looks.{Look}
 use Rattle.hq_translation.specs.Masks.{shown_look}
 use Rattle.hq_translation.specs.Names.{fold_alias, value_name}
-use Rattle.hq_translation.specs.Rights.{Rights}
+use Rattle.hq_translation.specs.GrantedTables.{GrantedTables}
 use Rattle.hq_compile_lists.specs.Bodies.{IsBody, rows_of}
 use Rattle.hq_compile_lists.specs.declared.list.ListBody.{ListBody}
 
@@ -18,7 +18,7 @@ use Rattle.hq_compile_lists.specs.declared.list.ListBody.{ListBody}
 abbrev pub output_of : List Column → (n : ℕ) → (cs : List ℕ) → List KeyedAggField → OutTree
 output_of columns n cs fs = record { value = object (pairs_of (summary_pairs columns n cs fs)); name = value_name }
 
-module _ (s : Schema) (g : Rights) (t n : ℕ) (a : ListArguments) (tie : PredTree) where
+module _ (s : Schema) (g : GrantedTables) (t n : ℕ) (a : ListArguments) (tie : PredTree) where
   -- the rows of an aggregate, from the parts by the names that they have in the code
   pub needed_rows_of : (needs cs : List ℕ) (b : ListBody) (look : Look) (f : SelectTree) (outs : List OutTree) (none : List JoinTree) (limit : Option ℕ)
       → IsBody s g t cs a n tie b → f ≡ rows_of s t n b limit outs none a.offset

@@ -8,7 +8,7 @@ use Rattle.hq_translation.specs.Conditions.{where_of}
 use Rattle.hq_translation.specs.Lists.{list_rows, list_sorts, sorts_from}
 use Rattle.hq_translation.specs.Masks.{shown_look}
 use Rattle.hq_translation.specs.Names.{table_alias}
-use Rattle.hq_translation.specs.Rights.{Rights}
+use Rattle.hq_translation.specs.GrantedTables.{GrantedTables}
 use Rattle.hq_translation.specs.Sorts.{key_outputs}
 use Rattle.hq_compile_tables.specs.Shown.{look_in}
 use Rattle.hq_compile_lists.specs.declared.list.ListBody.{ListBody}
@@ -22,7 +22,7 @@ rows_of s t n b limit outs children offset =
 
 -- With any outputs and children, the rows are those of the list, whose rows use these columns. The sort keys as outputs, and
 -- where the columns are shown, are there beside them.
-abbrev pub IsBody : Schema → Rights → (t : ℕ) → (used : List ℕ) → ListArguments → (n : ℕ) → (tie : PredTree) → ListBody → Type 0
+abbrev pub IsBody : Schema → GrantedTables → (t : ℕ) → (used : List ℕ) → ListArguments → (n : ℕ) → (tie : PredTree) → ListBody → Type 0
 IsBody s g t cs a n tie b = record {
   rows : (limit : Option ℕ) (outs : List OutTree) (children : List JoinTree) → rows_of s t n b limit outs children a.offset ≡ list_rows s g t cs a n tie limit outs children;
   keys : map out_view b.sorts.outputs.items ≡ key_outputs (list_sorts s t a) s g (shown_look s g t cs n) t n (sorts_from s g t cs a n) 0;

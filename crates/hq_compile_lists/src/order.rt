@@ -239,9 +239,11 @@ fn push_sort(
     ensures joins { let s = context_schema context.now in let g = context_rights context.now in
         OnOk result (map join_view parts.new.joins.items ≡ map join_view parts.old.joins.items ++ sort_joins sort.now.through s g t p next.old sort.now.column) }
     ensures orders { let s = context_schema context.now in let g = context_rights context.now in
-        OnOk result (map order_view parts.new.orders.items ≡ map order_view parts.old.orders.items ++ orders (row_sort_view sort.now ∷ []) s g (look_in places.now (table s t).columns p) t p next.old) }
+        OnOk result (map order_view parts.new.orders.items ≡ map order_view parts.old.orders.items
+        ++ orders (row_sort_view sort.now ∷ []) s g (look_in places.now (table s t).columns p) t p next.old) }
     ensures outputs { let s = context_schema context.now in let g = context_rights context.now in
-        OnOk result (map out_view parts.new.outputs.items ≡ map out_view parts.old.outputs.items ++ key_outputs (row_sort_view sort.now ∷ []) s g (look_in places.now (table s t).columns p) t p next.old i) }
+        OnOk result (map out_view parts.new.outputs.items ≡ map out_view parts.old.outputs.items
+        ++ key_outputs (row_sort_view sort.now ∷ []) s g (look_in places.now (table s t).columns p) t p next.old i) }
     ensures numbers { OnOk result (next.new ≡ next.old + sort_numbers sort.now.through (context_schema context.now) (context_rights context.now) t sort.now.column) }
 {
     parts

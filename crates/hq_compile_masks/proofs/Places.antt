@@ -4,7 +4,7 @@ use Rattle.std.proofs.lemmas.List.{append-nil}
 use Rattle.hq_model.specs.Permission.{Mask}
 use Rattle.hq_model.specs.Schema.{Schema, table}
 use Rattle.hq_sql_tree.specs.Tree.{JoinTree}
-use Rattle.hq_translation.specs.Looks.{Place, is_used}
+use Rattle.hq_translation.specs.Looks.{ColumnName, is_used}
 use Rattle.hq_translation.specs.Masks.{value_place, mask_numbers, mask_joins, mask_look}
 use Rattle.hq_translation.specs.Predicates.{own_numbers}
 use Rattle.hq_compile_tables.specs.Shown.{look_in}
@@ -13,7 +13,7 @@ use Rattle.hq_compile_masks.specs.MaskPlaces.{used_of, mask_places}
 
 places_look : (ms : List Mask) (s : Schema) (t p n c : ℕ) → look_in (mask_places ms s t n) (table s t).columns p c ≡ mask_look ms s t p n c
 places_look [] s t p n c = refl
-places_look (m ∷ ms) s t p n c = ap (λ (x : Place). cond (m.column == c) (value_place n) x) (places_look ms s t p (n + (1 + own_numbers m.shown s t)) c)
+places_look (m ∷ ms) s t p n c = ap (λ (x : ColumnName). cond (m.column == c) (value_place n) x) (places_look ms s t p (n + (1 + own_numbers m.shown s t)) c)
 
 -- the places of masks show what their joins show
 pub places_are_look : (ms : List Mask) (s : Schema) (t p n : ℕ) → look_in (mask_places ms s t n) (table s t).columns p ≡ mask_look ms s t p n

@@ -22,12 +22,12 @@ pub trait Counted {
     ghost use Rattle.hq_model.specs.Schema.{Schema, table as table_of};
     ghost use Rattle.hq_sql_tree.specs.View.{join_view, pred_view};
     ghost use Rattle.hq_translation.specs.Predicates.{Mode, columns_in};
-    ghost use Rattle.hq_translation.specs.Rights.{Rights};
+    ghost use Rattle.hq_translation.specs.GrantedTables.{GrantedTables};
     ghost use Rattle.hq_compile_tables.specs.Contexts.{context_schema, context_rights};
     ghost use Rattle.hq_compile_tables.specs.Shown.{look_in};
 
     /// What a remote alias has beside its link.
-    ghost mode: { Schema → Rights → Mode };
+    ghost mode: { Schema → GrantedTables → Mode };
 
     /// The joins of this table's masks at the alias of this number, where the inner expression is asked of its rows.
     fn masks(

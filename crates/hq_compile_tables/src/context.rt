@@ -1,7 +1,7 @@
 ghost use Rattle.std.specs.Prelude.{◌≡◌};
 
 use hq_base::List;
-use hq_model::{Bexp, ColId, Column, Mask, MaskList, Pair, RelId, Scope, Table, TableId};
+use hq_model::{Bexp, ColId, Column, Described, Mask, MaskList, Pair, RelId, Table, TableId};
 
 /// What a request is granted of a table: the bound filter, the most rows of a list, and the bound masks.
 #[derive(Drop)]
@@ -20,7 +20,7 @@ pub type GrantedList = List<Granted>;
 /// What a statement depends on beside its request: the tables with their relationships, and what is granted of them.
 #[derive(Clone, Copy)]
 pub struct Context<'a> {
-    pub scope: Scope<'a>,
+    pub scope: Described<'a>,
     pub granted: &'a GrantedList,
 }
 

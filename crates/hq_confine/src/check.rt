@@ -15,7 +15,7 @@ use crate::walk::walk_select;
 use hq_base::{Memory, Txt};
 use hq_confine_uses::{Fault, Rules, Shapes};
 use hq_laws_confine::confined_statements_mean_the_same;
-use hq_model::{Catalog, Meta, Scope, Session};
+use hq_model::{Catalog, Described, Meta, Session};
 use hq_sql_tree::Select;
 use std::alloc::Global;
 
@@ -68,7 +68,7 @@ pub fn confine(
     ensures same { let tables = catalog.now.tables in let meta = meta_view meta.now in
         IfOk result (λ verdict. YesShowsTheView verdict tables meta (grants_of session.now tables meta) (select_view statement.now)) }
 {
-    let scope = Scope { catalog, meta };
+    let scope = Described { catalog, meta };
     let views = granted_views(alloc, &scope, session)?;
     let rules = Rules {
         scope,

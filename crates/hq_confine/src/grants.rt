@@ -8,18 +8,18 @@ ghost use Rattle.hq_model.specs.Meta.{meta_view};
 ghost use Rattle.hq_model.specs.Permission.{role_of};
 ghost use Rattle.hq_model.specs.PermView.{mask_view, permission_view};
 ghost use Rattle.hq_model.specs.Schema.{no_table};
-ghost use Rattle.hq_model.specs.Scope.{scope_schema};
+ghost use Rattle.hq_model.specs.Described.{scope_schema};
 ghost use Rattle.hq_model.specs.declared.bind.BindRefusal.TheVariants as refusal;
 ghost use Rattle.hq_request_build.specs.Bound.{mask_due};
 
 use hq_base::Memory;
-use hq_model::{Bexp, BindRefusal, Mask, MaskList, PermView, Role, Scope, Session, TableId};
+use hq_model::{Bexp, BindRefusal, Described, Mask, MaskList, PermView, Role, Session, TableId};
 use hq_model_binding::bind;
 use std::alloc::Global;
 
 fn bound_mask(
     alloc: Global,
-    scope: &Scope<'_>,
+    scope: &Described<'_>,
     session: &Session,
     t: TableId,
     mask: &Mask,
@@ -35,7 +35,7 @@ fn bound_mask(
 
 fn bound_masks(
     alloc: Global,
-    scope: &Scope<'_>,
+    scope: &Described<'_>,
     session: &Session,
     t: TableId,
     masks: &[Mask],
@@ -72,7 +72,7 @@ fn with_bound(view: PermView, filter: Bexp, masks: MaskList) -> PermView
 // A permission on a table, its filter bound and then its masks.
 fn bound_view(
     alloc: Global,
-    scope: &Scope<'_>,
+    scope: &Described<'_>,
     session: &Session,
     t: TableId,
     view: PermView,
@@ -87,7 +87,7 @@ fn bound_view(
 // What the role is granted of a table: its permission, where there is one that binds.
 fn granted(
     alloc: Global,
-    scope: &Scope<'_>,
+    scope: &Described<'_>,
     session: &Session,
     role: &Role,
     t: TableId,
@@ -109,7 +109,7 @@ fn granted(
 // What a session of this role is granted of each table of the catalog, in order.
 fn views_of_role(
     alloc: Global,
-    scope: &Scope<'_>,
+    scope: &Described<'_>,
     session: &Session,
     role: &Role,
 ) -> Result<Vec<Option<PermView>>, Memory>
@@ -128,7 +128,7 @@ fn views_of_role(
 #[inline(never)]
 pub(crate) fn granted_views(
     alloc: Global,
-    scope: &Scope<'_>,
+    scope: &Described<'_>,
     session: &Session,
 ) -> Result<Vec<Option<PermView>>, Memory>
     ensures { IfOk result (λ views. map (option_map permission_view) views.items ≡ grants_of session.now scope.now.catalog.now.tables (meta_view scope.now.meta.now)) }

@@ -4,7 +4,7 @@ ghost use Rattle.hq_model.specs.Bexp.{bexp_view};
 ghost use Rattle.hq_sql_tree.specs.View.{pred_view};
 ghost use Rattle.hq_translation.specs.Masks.{filter_predicate};
 ghost use Rattle.hq_translation.specs.Predicates.{own_numbers, own_predicate};
-ghost use Rattle.hq_translation.specs.Rights.{rights_of};
+ghost use Rattle.hq_translation.specs.GrantedTables.{rights_of};
 ghost use Rattle.hq_confine_uses.specs.Views.{rules_schema, rules_grants};
 
 use hq_base::{List, Memory};

@@ -185,7 +185,8 @@ mutual
       (is_bare distinct joins keys limit offset && is_bare other_distinct other_joins other_keys other_limit other_offset
       && same_table from other_from)
       (are_alike_outs (beside r from other_from) outs other_outs)
-      (and_parts (is_bare distinct joins keys limit offset && is_bare other_distinct other_joins other_keys other_limit other_offset && same_table from other_from && are_alike_outs (beside r from other_from) outs other_outs) (is_alike_filter (beside r from other_from) condition other_condition) k).0).0
+      (and_parts (is_bare distinct joins keys limit offset && is_bare other_distinct other_joins other_keys other_limit other_offset && same_table from other_from
+      && are_alike_outs (beside r from other_from) outs other_outs) (is_alike_filter (beside r from other_from) condition other_condition) k).0).0
       in
       absurd (let no = tables.1 in cc)
   rows_alike _ _ r k w e f h = cc

@@ -4,11 +4,11 @@ use Rattle.hq_base.specs.Lists.{Each}
 use Rattle.hq_model.specs.Grants.{Grants, grant}
 use Rattle.hq_model.specs.Schema.{Schema, table, rel}
 use Rattle.hq_sql_tree.specs.Tree.{JoinTree, PredTree}
-use Rattle.hq_translation.specs.Looks.{Look, Place, own_look, cell_at, is_used}
+use Rattle.hq_translation.specs.Looks.{Look, ColumnName, own_look, cell_at, is_used}
 use Rattle.hq_translation.specs.Masks.{value_place, extra, masks, shown_look, filter_numbers, filter_predicate}
 use Rattle.hq_translation.specs.Names.{join_alias, value_name}
 use Rattle.hq_translation.specs.Predicates.{link}
-use Rattle.hq_translation.specs.Rights.{Rights, rights_of}
+use Rattle.hq_translation.specs.GrantedTables.{GrantedTables, rights_of}
 use Rattle.hq_translation.specs.Selects.{filter_from, behind_filter, first_select}
 use Rattle.hq_translation.specs.Sorts.{Sort, last_used, sort_place, sort_numbers, sort_joins, sorts_numbers, sorts_joins}
 use Rattle.hq_translation.proofs.Names.{used_one}
@@ -29,7 +29,7 @@ module _ (s : Schema) (g : Grants) where
   passes (of t path c) h = rw h refl
 
   -- a cell that is plain may be an output
-  pub plain_out : (final : Shapes) (p : Place) → is_plain g (origin_at s final p.alias p.name) ≡ true → out_faults s g final (cell_at p) ≡ []
+  pub plain_out : (final : Shapes) (p : ColumnName) → is_plain g (origin_at s final p.alias p.name) ≡ true → out_faults s g final (cell_at p) ≡ []
   plain_out final p h =
       let may : may_pass s g (origin_at s final p.alias p.name) ≡ true = passes (origin_at s final p.alias p.name) h in
       rw may refl
@@ -42,7 +42,7 @@ module _ (s : Schema) (g : Grants) where
       (link_exempt s g t r p n final ys leads.ready lt bound (scans_behind scope final p n t lt behind.grows own) leads.within)
 
   -- where the cell of a chain of relationships stands, it is plain
-  abbrev pub PlainAt : Shapes → Place → Type 0
+  abbrev pub PlainAt : Shapes → ColumnName → Type 0
   PlainAt final p = is_plain g (origin_at s final p.alias p.name) ≡ true
 
   -- what is plain behind an alias's masks stays so
@@ -61,13 +61,13 @@ module _ (s : Schema) (g : Grants) where
   chain_clean [] scope t p n c look f own lt bound here =
       joined_none s g scope n (n + 0) (λ final. PlainAt final (look c)) (λ final grown. here final (λ a u. grown a (under_later n (n + 0) a (omega arith) u)) (used_one c))
   chain_clean (r ∷ rs) scope t p n c look f own lt bound here =
-      let R : Rights = rights_of g in
+      let R : GrantedTables = rights_of g in
       let far : ℕ = (rel s t r).remote in
       let cs : List ℕ = last_used rs c in
       let behind : ℕ = behind_filter s R far cs n in
       let m : ℕ = behind + sort_numbers rs s R far c in
       let inner : Look = shown_look s R far cs n in
-      let place : Place = sort_place false rs s inner far n behind c in
+      let place : ColumnName = sort_place false rs s inner far n behind c in
       let first = first_clean s g scope far n m cs (link s t (rel s t r) p n) (cell_at place) (sort_joins rs s R far n behind c) f.0.ready f.1 (omega arith) (omega arith)
       (λ final b. link_ties t r p n scope final cs f.0 lt (omega arith) own b)
       (λ at b. joined_as s g at behind m m (sort_joins rs s R far n behind c) (λ final. PlainAt final place)

@@ -21,7 +21,7 @@ use Rattle.hq_translation.specs.Looks.{Look, name_of, own_look, cell_at, compare
 use Rattle.hq_translation.specs.Masks.{value_place, mask_numbers, mask_select, mask_joins, mask_look, used_masks, extra, masks, shown_look, filter_numbers, filter_predicate}
 use Rattle.hq_translation.specs.Names.{table_alias, join_alias, value_name}
 use Rattle.hq_translation.specs.Predicates.{link_members, link, own_numbers, own_predicate}
-use Rattle.hq_translation.specs.Rights.{rights_of}
+use Rattle.hq_translation.specs.GrantedTables.{rights_of}
 use Rattle.hq_translation.proofs.Names.{same_text, table_aliases_differ}
 use Rattle.hq_translation.proofs.Scopes.{Under, under_join, under_later, LooksUnder, looks_under_later, own_under}
 use Rattle.hq_confine_rules.specs.Conjuncts.{opened, conjuncts}

@@ -25,7 +25,7 @@ use Rattle.hq_translation.specs.Looks.{Look, own_look, type_in, cell_at, shown_a
 use Rattle.hq_translation.specs.Masks.{value_place, extra, masks, shown_look, filter_numbers, filter_predicate}
 use Rattle.hq_translation.specs.Names.{table_alias, join_alias, value_name}
 use Rattle.hq_translation.specs.Predicates.{link}
-use Rattle.hq_translation.specs.Rights.{Rights, rights_of}
+use Rattle.hq_translation.specs.GrantedTables.{GrantedTables, rights_of}
 use Rattle.hq_translation.specs.Selects.{filter_from, behind_filter, first_select}
 use Rattle.hq_translation.specs.Statement.{statement}
 use Rattle.hq_translation.proofs.Names.{same_text, used_one, used_left, used_right}
@@ -43,7 +43,7 @@ use Rattle.hq_confine_rules.proofs.Scopes.{Grows, grows_one, Scans, scans_behind
 use Rattle.hq_confine_rules.proofs.Wanted.{from_of, Behind, IsTied, first_clean}
 
 module _ (s : Schema) (g : Grants) where
-  abbrev R : Rights
+  abbrev R : GrantedTables
   R = rights_of g
 
   -- where a table has relationships, the alias of number p shows it

@@ -19,7 +19,7 @@ use Rattle.hq_translation.specs.Looks.{own_look, compared_at}
 use Rattle.hq_translation.specs.Masks.{mask_select, filter_numbers, filter_predicate}
 use Rattle.hq_translation.specs.Names.{table_alias, value_name}
 use Rattle.hq_translation.specs.Predicates.{link_members, link, own_numbers, own_predicate}
-use Rattle.hq_translation.specs.Rights.{rights_of}
+use Rattle.hq_translation.specs.GrantedTables.{rights_of}
 use Rattle.hq_translation.proofs.Names.{same_text, table_aliases_differ}
 use Rattle.hq_confine_rules.specs.Conjuncts.{opened, all_opened, conjuncts}
 use Rattle.hq_confine_rules.specs.Origins.{Origin, of, scan, Shapes, shape_at, origin_at}

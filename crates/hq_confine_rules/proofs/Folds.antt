@@ -11,7 +11,7 @@ use Rattle.hq_sql_tree.specs.Tree.{ExprTree, OrderTree, OrderTrees, OutTree, ord
 use Rattle.hq_translation.specs.Fine.{Has}
 use Rattle.hq_translation.specs.Looks.{Look, name_of, own_look, cell_at}
 use Rattle.hq_translation.specs.Names.{table_alias, fold_alias, value_name, key_name}
-use Rattle.hq_translation.specs.Rights.{rights_of}
+use Rattle.hq_translation.specs.GrantedTables.{rights_of}
 use Rattle.hq_translation.specs.Sorts.{Sort, shown_sorts, own_sorts, sort_form, sort_numbers, key_outputs, output_orders}
 use Rattle.hq_translation.proofs.Names.{same_text, key_names_differ, value_is_no_key}
 use Rattle.hq_confine_rules.specs.Origins.{Origin, made, of, Shapes, outputs, shape_at, origin_in, origin_at, origin, behind, output_named, output_origins}

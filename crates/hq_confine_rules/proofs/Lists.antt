@@ -12,7 +12,7 @@ use Rattle.hq_translation.specs.Looks.{Look, type_in, compared_form, is_used}
 use Rattle.hq_translation.specs.Masks.{extra, masks, shown_look, filter_numbers, filter_predicate, where_mode}
 use Rattle.hq_translation.specs.Names.{table_alias}
 use Rattle.hq_translation.specs.Predicates.{columns_in, predicate}
-use Rattle.hq_translation.specs.Rights.{Rights, rights_of}
+use Rattle.hq_translation.specs.GrantedTables.{GrantedTables, rights_of}
 use Rattle.hq_translation.specs.Selects.{filter_from, behind_filter}
 use Rattle.hq_translation.specs.Sorts.{Sort, used_sorts, sorts_numbers, sorts_joins, orders, shown_sorts, own_sorts}
 use Rattle.hq_translation.proofs.Names.{used_left, used_right, used_one}
@@ -56,7 +56,7 @@ module _ (s : Schema) (g : Grants) where
       → ((here : Shapes) → Behind s g scope u n (list_used s u a more) here → Joined s g here (children_from s (rights_of g) u (list_used s u a more) a n) m J V)
       → Joined s g (with_scan s g u n scope) (n + 1) m (all_joins u n a more J) (ListSeen scope u n a more V)
   list_joined scope u n m a more J V ready permits sorted le bound kids =
-      let R : Rights = rights_of g in
+      let R : GrantedTables = rights_of g in
       let cs : List ℕ = list_used s u a more in
       let es : List SortKey = entries (once a) in
       let ks : List Sort = list_sorts s u a in
@@ -96,7 +96,7 @@ module _ (s : Schema) (g : Grants) where
       → V final → outs_faults s g final outs ≡ [])
       → select_faults s g scope counts (list_rows s (rights_of g) u (list_used s u a more) a n tie limit outs J) ≡ []
   list_clean scope counts u n m a more tie limit outs J V ready permits wanted sorted le bound tied kids shown =
-      let R : Rights = rights_of g in
+      let R : GrantedTables = rights_of g in
       let cs : List ℕ = list_used s u a more in
       let es : List SortKey = entries (once a) in
       let ks : List Sort = list_sorts s u a in

@@ -22,7 +22,7 @@ use Rattle.hq_translation.specs.Looks.{Look, cell_at, is_used, type_in, compared
 use Rattle.hq_translation.specs.Masks.{value_output, shown_look}
 use Rattle.hq_translation.specs.Names.{table_alias, fold_alias, value_name, key_name, needed_name, unit_name}
 use Rattle.hq_translation.specs.Predicates.{columns_in}
-use Rattle.hq_translation.specs.Rights.{Rights, rights_of}
+use Rattle.hq_translation.specs.GrantedTables.{GrantedTables, rights_of}
 use Rattle.hq_translation.specs.Sorts.{used_sorts, output_orders}
 use Rattle.hq_translation.proofs.Names.{same_text, value_is_no_key, used_one, used_left, used_right}
 use Rattle.hq_confine_rules.specs.Conjuncts.{conjuncts}
@@ -95,7 +95,7 @@ module _ (s : Schema) (g : Grants) where
       → ((final : Shapes) → V final → pairs_faults s g final (pairs_of values) ≡ [])
       → First s g scope (list_select s (rights_of g) u (list_used s u a more) a n tie values J)
   list_first scope u n m a more tie values J V ready f le bound tied kids valued =
-      let R : Rights = rights_of g in
+      let R : GrantedTables = rights_of g in
       let cs : List ℕ = list_used s u a more in
       let es : List SortKey = entries (once a) in
       let look : Look = shown_look s R u cs n in
@@ -201,7 +201,7 @@ module _ (s : Schema) (g : Grants) where
       → AllowedList s g u a (needed fs []) → children_from s (rights_of g) u (summary_used s u a fs) a n ≤ 2 ^ 64
       → ((final : Shapes) → Behind s g scope u n (summary_used s u a fs) final → IsTied s g final u n tie) → First s g scope (folded_select fs s (rights_of g) u a n tie)
   folded_first scope fs u n a tie ready f bound tied =
-      let R : Rights = rights_of g in
+      let R : GrantedTables = rights_of g in
       let more : List ℕ = needed fs [] in
       let cs : List ℕ = list_used s u a more in
       let look : Look = shown_look s R u cs n in

@@ -13,7 +13,7 @@ use Rattle.hq_sql_tree.specs.Tree.{FilterTree, PredTree}
 use Rattle.hq_sql_tree.specs.Meaning.{Scope, World, named_row, kept, truth_at, with_alias, nothing}
 use Rattle.hq_translation.specs.Masks.{filter_numbers, filter_predicate}
 use Rattle.hq_translation.specs.Names.{table_alias}
-use Rattle.hq_translation.specs.Rights.{rights_of}
+use Rattle.hq_translation.specs.GrantedTables.{rights_of}
 use Rattle.hq_translation.proofs.Names.{same_text, equal_text, Narrow, shows_row}
 use Rattle.hq_translation.proofs.Predicates.{own_means}
 use Rattle.hq_translation.proofs.Sound.{Sound}

@@ -7,7 +7,7 @@ use Rattle.hq_model.specs.declared.table.Column.{Column}
 use Rattle.hq_sql_tree.specs.declared.expr.ColumnForm.{ColumnForm}
 use Rattle.hq_sql_tree.specs.Tree.{ExprTree, column, SelectTree, JoinTree, joins_of}
 use Rattle.hq_translation.specs.Fine.{Has}
-use Rattle.hq_translation.specs.Looks.{Look, Place, name_of, own_look, is_used, cell_at}
+use Rattle.hq_translation.specs.Looks.{Look, ColumnName, name_of, own_look, is_used, cell_at}
 use Rattle.hq_translation.specs.Masks.{value_place}
 use Rattle.hq_translation.specs.Names.{table_alias, fold_alias, join_alias, value_name}
 use Rattle.hq_translation.proofs.Names.{same_text, used_left, used_right}

@@ -7,9 +7,9 @@ use Rattle.hq_model.specs.Selected.{SortKey}
 use Rattle.hq_sql_tree.specs.Tree as tree
 use Rattle.hq_sql_tree.specs.Tree.{ExprTree, OrderTree, OrderTrees, OutTree, JoinTree, orders_of}
 use Rattle.hq_translation.specs.Fine.{Has}
-use Rattle.hq_translation.specs.Looks.{Look, Place, own_look, is_used}
+use Rattle.hq_translation.specs.Looks.{Look, ColumnName, own_look, is_used}
 use Rattle.hq_translation.specs.Names.{table_alias, fold_alias, value_name, key_name}
-use Rattle.hq_translation.specs.Rights.{Rights, rights_of}
+use Rattle.hq_translation.specs.GrantedTables.{GrantedTables, rights_of}
 use Rattle.hq_translation.specs.Sorts.{Sort, shown_sorts, own_sorts, used_by, used_sorts, last_used, sort_form, sort_place, sort_numbers, sort_joins, sorts_numbers, sorts_joins, orders, key_outputs, output_orders}
 use Rattle.hq_translation.proofs.Names.{same_text, used_left, used_right, key_names_differ}
 use Rattle.hq_translation.proofs.Scopes.{under_later}
@@ -27,7 +27,7 @@ module _ (s : Schema) (g : Grants) (t p : ℕ) (look : Look) where
   behind_sorts [] n = n
   behind_sorts (k ∷ ks) n = behind_sorts ks (n + sort_numbers k.through s (rights_of g) t k.column)
 
-  abbrev pub place_at : SortKey → ℕ → Place
+  abbrev pub place_at : SortKey → ℕ → ColumnName
   place_at k n = sort_place false k.through s look t p n k.column
 
   -- entries as sort keys of the rows
@@ -75,7 +75,7 @@ module _ (s : Schema) (g : Grants) (t p : ℕ) (look : Look) where
       → Joined s g scope n (n + sorts_numbers (shown_sorts es (own_sorts cs)) s (rights_of g) t) (sorts_joins (shown_sorts es (own_sorts cs)) s (rights_of g) t p n) (λ final. EntriesPlain final es n)
   sorts_joined [] cs scope n f own lt bound shows = own_joined cs scope n
   sorts_joined (k ∷ ks) cs scope n f own lt bound shows =
-      let R : Rights = rights_of g in
+      let R : GrantedTables = rights_of g in
       let here : ℕ = sort_numbers k.through s R t k.column in
       let mid : ℕ = n + here in
       let rest : List Sort = shown_sorts ks (own_sorts cs) in

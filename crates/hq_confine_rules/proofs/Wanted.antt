@@ -15,7 +15,7 @@ use Rattle.hq_translation.specs.Looks.{Look, name_of, own_look, compared_at, tes
 use Rattle.hq_translation.specs.Masks.{value_output, extra, masks, shown_look, filter_numbers, filter_predicate, where_mode}
 use Rattle.hq_translation.specs.Names.{table_alias, value_name, unit_name}
 use Rattle.hq_translation.specs.Predicates.{columns_in, columns_in_all, guard_from, inner_from, numbers, numbers_all, predicate, predicates, link}
-use Rattle.hq_translation.specs.Rights.{Rights, rights_of}
+use Rattle.hq_translation.specs.GrantedTables.{GrantedTables, rights_of}
 use Rattle.hq_translation.specs.Selects.{key_orders, filter_from, behind_filter, first_select}
 use Rattle.hq_translation.proofs.Names.{same_text, used_one, used_left, used_right, used_else}
 use Rattle.hq_translation.proofs.Scopes.{under_later, LooksUnder, looks_under_later}
@@ -84,7 +84,7 @@ module _ (s : Schema) (g : Grants) where
         (λ some. column_clean s g scope (look c).alias (look c).name (tested_form tested (type_in (table s t).columns c))
         (k c (used_else c (is_of_nothing tested (operands_of vs)) some)))
     wanted_clean (through r b) look t p n scope f own lt k u bound =
-        let R : Rights = rights_of g in
+        let R : GrantedTables = rights_of g in
         let far : ℕ = (rel s t r).remote in
         let cs : List ℕ = columns_in b in
         let ready : Ready s g far = f.0.ready in
@@ -119,7 +119,7 @@ module _ (s : Schema) (g : Grants) where
         (ap (λ l. stand_among l (filter_conjuncts s g far) (table_alias n)) is ∙ stand) refl
         (subst (λ l. where_faults s g final (is_exempt s g final l (from_of far n)) (where_of (with_member L (with_member A (with_member B [])))) ≡ []) (sym is) kept) refl
     wanted_clean (exists_in u b) look t p n scope f own lt k v bound =
-        let R : Rights = rights_of g in
+        let R : GrantedTables = rights_of g in
         let cs : List ℕ = columns_in b in
         let ready : Ready s g u = f.0 in
         let within : Shapes = with_scan u n scope in
@@ -244,7 +244,7 @@ module _ (s : Schema) (g : Grants) where
       → ((here : Shapes) → Behind scope u n cs here → Joined s g here (behind_filter s (rights_of g) u cs n) m J (λ final. (out_faults s g final e ≡ []) × (is_plain g (origin s final e) ≡ true)))
       → First s g scope (first_select s u n tie (filter_predicate s (rights_of g) u n (filter_from s (rights_of g) u cs n)) e (masks s (rights_of g) u cs n ++ J))
   first_clean scope u n m cs tie e J ready permits le bound tied kids =
-      let R : Rights = rights_of g in
+      let R : GrantedTables = rights_of g in
       let V : Shapes → Type 0 = λ final. (out_faults s g final e ≡ []) × (is_plain g (origin s final e) ≡ true) in
       let within : Shapes = with_scan u n scope in
       let from : ℕ = filter_from s R u cs n in

@@ -13,7 +13,7 @@ use Rattle.hq_sql_tree.specs.Meaning.{Scope, named_row, kept}
 use Rattle.hq_sql_tree.specs.Tree.{FilterTree}
 use Rattle.hq_translation.specs.Fields.{fields_numbers}
 use Rattle.hq_translation.specs.Masks.{filter_numbers}
-use Rattle.hq_translation.specs.Rights.{rights_of}
+use Rattle.hq_translation.specs.GrantedTables.{rights_of}
 use Rattle.hq_translation.specs.Statement.{statement}
 use Rattle.hq_confine_rules.specs.Conjuncts.{conjuncts}
 use Rattle.hq_confine_rules.specs.Faults.{IsConfined}

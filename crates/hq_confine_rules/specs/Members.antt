@@ -16,7 +16,7 @@ use Rattle.hq_translation.specs.Names.{table_alias}
 use Rattle.hq_translation.specs.Looks.{name_of}
 use Rattle.hq_translation.specs.Predicates.{own_predicate}
 use Rattle.hq_translation.specs.Masks.{filter_predicate}
-use Rattle.hq_translation.specs.Rights.{rights_of}
+use Rattle.hq_translation.specs.GrantedTables.{rights_of}
 use Rattle.hq_confine_rules.specs.Conjuncts.{opened, conjuncts}
 use Rattle.hq_confine_rules.specs.Origins.{Shape, scan, outputs, Shapes, shape_at, column_place}
 use Rattle.hq_confine_rules.specs.Renamed.{alias_of, is_alike}

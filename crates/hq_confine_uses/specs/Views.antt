@@ -4,7 +4,7 @@ use Rattle.std.specs.Prelude.{ℕ, List, [], ◌∷◌, map, Option, Some, None,
 use Rattle.hq_model.specs.Grants.{Grants}
 use Rattle.hq_model.specs.PermView.{permission_view}
 use Rattle.hq_model.specs.Schema.{Schema}
-use Rattle.hq_model.specs.Scope.{scope_schema}
+use Rattle.hq_model.specs.Described.{scope_schema}
 use Rattle.hq_confine_rules.specs.Origins.{Origin, made, of, Shape, scan, outputs, Shapes}
 use Rattle.hq_confine_rules.specs.Uses.{Fault}
 use Rattle.hq_confine_uses.specs.declared.faults.Fault as fault

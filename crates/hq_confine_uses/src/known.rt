@@ -1,12 +1,12 @@
 //! What the rules are asked over: the tables with their relationships, and what a session is granted of each.
 ghost use Rattle.std.specs.Prelude.{◌≡◌};
 
-use hq_model::{Bexp, ColId, Column, Mask, PermView, Rel, Scope, TableId, has_column};
+use hq_model::{Bexp, ColId, Column, Described, Mask, PermView, Rel, TableId, has_column};
 
 /// The tables with their relationships, and for each table by its place what the session is granted of it.
 #[derive(Clone, Copy)]
 pub struct Rules<'a> {
-    pub scope: Scope<'a>,
+    pub scope: Described<'a>,
     pub grants: &'a [Option<PermView>],
 }
 

@@ -1,6 +1,6 @@
 //! An accepted request in words.
 
-use crate::filter::{Scope, put_filter};
+use crate::filter::{FilterTable, put_filter};
 use crate::layout::put_statement;
 use hq_base::{Bytes, Memory};
 use hq_explain_places::Words;
@@ -26,7 +26,7 @@ fn put_columns(words: &mut Words, tracked: &Tracked, cols: &[ColId]) {
     }
 }
 
-fn put_rows(words: &mut Words, scope: &Scope<'_>, filter: &Bexp) {
+fn put_rows(words: &mut Words, scope: &FilterTable<'_>, filter: &Bexp) {
     match filter {
         Bexp::True => words.put("all"),
         filter => {
@@ -46,7 +46,7 @@ fn put_limit(words: &mut Words, perm: &PermView) {
 }
 
 // Adds the columns that show at some of the rows alone.
-fn put_masks(words: &mut Words, tracked: &Tracked, scope: &Scope<'_>, masks: &[Mask]) {
+fn put_masks(words: &mut Words, tracked: &Tracked, scope: &FilterTable<'_>, masks: &[Mask]) {
     for mask in masks {
         words.put("    masked:  ");
         put_columns(words, tracked, &[mask.col]);
@@ -75,7 +75,7 @@ fn put_table(
     words.put("\n    columns: ");
     put_columns(words, tracked, perm.cols.as_slice());
     words.put("\n    rows:    ");
-    let scope = Scope {
+    let scope = FilterTable {
         catalog,
         meta,
         table: bound.table,

@@ -8,16 +8,16 @@ use hq_model::{
 
 /// What a filter is over: a table of a catalog, with its relationships.
 #[derive(Clone, Copy)]
-pub struct Scope<'a> {
+pub struct FilterTable<'a> {
     pub catalog: &'a Catalog,
     pub meta: &'a Meta,
     pub table: TableId,
 }
 
-impl<'a> Scope<'a> {
+impl<'a> FilterTable<'a> {
     // The same catalog, at another table of it.
-    fn of(&self, table: TableId) -> Scope<'a> {
-        Scope {
+    fn of(&self, table: TableId) -> FilterTable<'a> {
+        FilterTable {
             catalog: self.catalog,
             meta: self.meta,
             table,
@@ -88,7 +88,7 @@ fn test_word(test: Test, negated: bool) -> &'static str {
     }
 }
 
-fn put_column(words: &mut Words, scope: &Scope<'_>, col: ColId) {
+fn put_column(words: &mut Words, scope: &FilterTable<'_>, col: ColId) {
     if let Some(table) = scope.catalog.table(scope.table)
         && let Some(column) = table.column(col)
     {
@@ -99,7 +99,7 @@ fn put_column(words: &mut Words, scope: &Scope<'_>, col: ColId) {
 // A column, what is said of it, and what it is tested against.
 fn put_test(
     words: &mut Words,
-    scope: &Scope<'_>,
+    scope: &FilterTable<'_>,
     col: ColId,
     test: Test,
     operands: &Operands,
@@ -111,7 +111,7 @@ fn put_test(
 }
 
 // How a column stands to another one of the same row.
-fn put_compared(words: &mut Words, scope: &Scope<'_>, left: ColId, op: Op, right: ColId) {
+fn put_compared(words: &mut Words, scope: &FilterTable<'_>, left: ColId, op: Op, right: ColId) {
     put_column(words, scope, left);
     words.put(sign(op));
     put_column(words, scope, right);
@@ -119,7 +119,13 @@ fn put_compared(words: &mut Words, scope: &Scope<'_>, left: ColId, op: Op, right
 
 // Expressions in brackets with a word between them, or what they come to where there are none.
 #[cycle(bexp)]
-fn put_members(words: &mut Words, scope: &Scope<'_>, word: &str, none: &str, bexps: &BexpList) {
+fn put_members(
+    words: &mut Words,
+    scope: &FilterTable<'_>,
+    word: &str,
+    none: &str,
+    bexps: &BexpList,
+) {
     if bexps.is_empty() {
         words.put(none);
         return;
@@ -133,7 +139,7 @@ fn put_members(words: &mut Words, scope: &Scope<'_>, word: &str, none: &str, bex
 }
 
 // The table behind a relationship; adds the relationship's name.
-fn behind<'a>(words: &mut Words, scope: &Scope<'a>, rel: RelId) -> Option<Scope<'a>> {
+fn behind<'a>(words: &mut Words, scope: &FilterTable<'a>, rel: RelId) -> Option<FilterTable<'a>> {
     let tracked = scope.meta.tracked_table(scope.table)?;
     let found = tracked.rel(rel)?;
     words.put_bytes(found.name.as_bytes());
@@ -142,7 +148,7 @@ fn behind<'a>(words: &mut Words, scope: &Scope<'a>, rel: RelId) -> Option<Scope<
 
 // What a row that is sought is to meet; nothing where any row is.
 #[cycle(bexp)]
-fn put_with(words: &mut Words, scope: &Scope<'_>, inner: &Bexp) {
+fn put_with(words: &mut Words, scope: &FilterTable<'_>, inner: &Bexp) {
     match inner {
         Bexp::True => {}
         Bexp::And(_) | Bexp::Or(_) => {
@@ -158,7 +164,7 @@ fn put_with(words: &mut Words, scope: &Scope<'_>, inner: &Bexp) {
 }
 
 #[cycle(bexp)]
-fn put_through(words: &mut Words, scope: &Scope<'_>, rel: RelId, inner: &Bexp) {
+fn put_through(words: &mut Words, scope: &FilterTable<'_>, rel: RelId, inner: &Bexp) {
     words.put("some ");
     if let Some(remote) = behind(words, scope, rel) {
         put_with(words, &remote, inner);
@@ -166,7 +172,7 @@ fn put_through(words: &mut Words, scope: &Scope<'_>, rel: RelId, inner: &Bexp) {
 }
 
 // Adds a table's name in the database.
-fn put_table(words: &mut Words, scope: &Scope<'_>) {
+fn put_table(words: &mut Words, scope: &FilterTable<'_>) {
     if let Some(table) = scope.catalog.table(scope.table) {
         words.put_bytes(table.schema.as_bytes());
         words.put(".");
@@ -175,7 +181,7 @@ fn put_table(words: &mut Words, scope: &Scope<'_>) {
 }
 
 #[cycle(bexp)]
-fn put_exists(words: &mut Words, scope: &Scope<'_>, inner: &Bexp) {
+fn put_exists(words: &mut Words, scope: &FilterTable<'_>, inner: &Bexp) {
     words.put("some row of ");
     put_table(words, scope);
     put_with(words, scope, inner);
@@ -183,7 +189,7 @@ fn put_exists(words: &mut Words, scope: &Scope<'_>, inner: &Bexp) {
 
 /// Adds a filter.
 #[cycle(bexp)]
-pub fn put_filter(words: &mut Words, scope: &Scope<'_>, bexp: &Bexp) {
+pub fn put_filter(words: &mut Words, scope: &FilterTable<'_>, bexp: &Bexp) {
     match bexp {
         Bexp::True => words.put("true"),
         Bexp::And(bexps) => put_members(words, scope, " and ", "true", bexps),

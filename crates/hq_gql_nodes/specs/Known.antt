@@ -11,14 +11,14 @@ use Rattle.hq_gql_tree.specs.declared.document.OpKind.TheVariants as op
 use Rattle.hq_gql_tree.specs.Values.{ValueTree, null}
 use Rattle.hq_gql_tree.specs.Types.{TypeTree}
 use Rattle.hq_gql_tree.specs.Types.{named as type_name, list as list_type, non_null as non_null_type}
-use Rattle.hq_gql_nodes.specs.declared.place.Place.{Place}
+use Rattle.hq_gql_nodes.specs.declared.place.ValuePlace.{ValuePlace}
 
 -- the place of a value: its type, and whether it has the default `false`
 pub record PlaceTree : Type 0 where
   pub ty : TypeRefTree
   pub default_false : Bool
 
-abbrev pub place_view : Place → PlaceTree
+abbrev pub place_view : ValuePlace → PlaceTree
 place_view p = record { ty = type_ref_view p.ty.now; default_false = p.default_false }
 
 abbrev pub place_of_arg : ArgTree → PlaceTree

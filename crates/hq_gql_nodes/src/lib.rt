@@ -24,7 +24,7 @@ pub use least::{at_if, earlier};
 pub use names::{NameAt, NamePlaces, Names, least_repeat, note, note_first};
 pub use node::{Location, Node};
 pub use parts::{Part, document_parts};
-pub use place::{Place, arg_place, element_place, input_of, member_place};
+pub use place::{ValuePlace, arg_place, element_place, input_of, member_place};
 pub use search::{reached, row};
 pub use selections::below_inline;
 pub use variables::{VariableTypes, type_at, types_at, variable_types};

@@ -1,4 +1,4 @@
-use crate::Place;
+use crate::ValuePlace;
 use hq_gql_tree::{Argument, Directive, Field, Inline, Placed, Spread, TypeCond, VarDef};
 use hq_schema::{ArgDefList, TypeRef};
 
@@ -35,7 +35,7 @@ pub enum Node<'a> {
     /// An argument, and the arguments of what it is given to.
     Argument(&'a Argument, Option<&'a ArgDefList>),
     /// A value, also an element or a member, and its place.
-    Value(&'a Placed, Option<Place<'a>>),
+    Value(&'a Placed, Option<ValuePlace<'a>>),
     /// A member of an object, and the input object that it stands in.
     Member(&'a Argument, Option<usize>),
 }

@@ -12,7 +12,7 @@ use crate::place::default_place;
 use crate::selections::add_selections;
 use crate::values::{add_directives, add_value};
 use crate::variables::{type_at, types_at};
-use crate::{Location, Node, Place};
+use crate::{Location, Node, ValuePlace};
 use hq_base::Memory;
 use hq_gql_tree::{Definition, Document, Fragment, OpKind, Operation, Placed, VarDef};
 use hq_schema::{Schema, TypeRef};
@@ -40,7 +40,7 @@ fn add_default<'a>(
     nodes: &mut Vec<Node<'a>>,
     schema: &'a Schema,
     default: &'a Option<Placed>,
-    place: Option<Place<'a>>,
+    place: Option<ValuePlace<'a>>,
 ) -> Result<(), Memory>
     ensures { OnOk result
         (map node_view nodes.new.items

@@ -9,27 +9,27 @@ use hq_schema::{ArgDef, ArgDefList, Schema, TypeId, TypeRef, arg_named};
 
 /// The place of a value: its type, and whether it has the default `false`.
 #[derive(Clone, Copy)]
-pub struct Place<'a> {
+pub struct ValuePlace<'a> {
     pub ty: &'a TypeRef,
     pub default_false: bool,
 }
 
-fn place_of_arg(arg: &ArgDef) -> Place<'_>
+fn place_of_arg(arg: &ArgDef) -> ValuePlace<'_>
     ensures { place_view result ≡ place_of_arg (arg_view arg.now) }
 {
-    Place {
+    ValuePlace {
         ty: &arg.ty,
         default_false: arg.default_false,
     }
 }
 
 /// The place of the elements of a list.
-pub fn element_place(place: Option<Place<'_>>) -> Option<Place<'_>>
+pub fn element_place(place: Option<ValuePlace<'_>>) -> Option<ValuePlace<'_>>
     ensures { option_map place_view result ≡ element_place (option_map place_view place.entry) }
 {
     match place {
         Some(place) => match element_type(place.ty) {
-            Some(ty) => Some(Place {
+            Some(ty) => Some(ValuePlace {
                 ty,
                 default_false: false,
             }),
@@ -40,7 +40,7 @@ pub fn element_place(place: Option<Place<'_>>) -> Option<Place<'_>>
 }
 
 /// The input object whose members stand at a place.
-pub fn input_of(schema: &Schema, place: Option<Place<'_>>) -> Option<usize>
+pub fn input_of(schema: &Schema, place: Option<ValuePlace<'_>>) -> Option<usize>
     ensures { result ≡ input_of (schema_view schema.now) (option_map place_view place.entry) }
 {
     match place {
@@ -50,7 +50,11 @@ pub fn input_of(schema: &Schema, place: Option<Place<'_>>) -> Option<usize>
 }
 
 /// The place of a member of an input object.
-pub fn member_place<'a>(schema: &'a Schema, input: Option<usize>, name: &Txt) -> Option<Place<'a>>
+pub fn member_place<'a>(
+    schema: &'a Schema,
+    input: Option<usize>,
+    name: &Txt,
+) -> Option<ValuePlace<'a>>
     ensures { option_map place_view result ≡ member_place (schema_view schema.now) input name.now }
 {
     let Some(input) = input else {
@@ -63,7 +67,7 @@ pub fn member_place<'a>(schema: &'a Schema, input: Option<usize>, name: &Txt) ->
 }
 
 /// The place of an argument among those that are known.
-pub fn arg_place<'a>(args: Option<&'a ArgDefList>, name: &Txt) -> Option<Place<'a>>
+pub fn arg_place<'a>(args: Option<&'a ArgDefList>, name: &Txt) -> Option<ValuePlace<'a>>
     ensures { option_map place_view result ≡ arg_place (option_map (λ defs. map arg_view defs.now) args.entry) name.now }
 {
     let Some(args) = args else {
@@ -76,11 +80,11 @@ pub fn arg_place<'a>(args: Option<&'a ArgDefList>, name: &Txt) -> Option<Place<'
 }
 
 /// The place of a variable's default, by the variable's type.
-pub fn default_place<'a>(schema: &Schema, ty: Option<&'a TypeRef>) -> Option<Place<'a>>
+pub fn default_place<'a>(schema: &Schema, ty: Option<&'a TypeRef>) -> Option<ValuePlace<'a>>
     ensures { option_map place_view result ≡ default_place (schema_view schema.now) (option_map (λ r. type_ref_view r.now) ty.entry) }
 {
     match ty {
-        Some(ty) if is_input_type(schema, ty) => Some(Place {
+        Some(ty) if is_input_type(schema, ty) => Some(ValuePlace {
             ty,
             default_false: false,
         }),

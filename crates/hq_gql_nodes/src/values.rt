@@ -7,7 +7,7 @@ ghost use Rattle.hq_gql_nodes.specs.Nodes.{node_view, value_nodes, nodes_in_valu
 
 use crate::known::args_of_directive;
 use crate::place::{arg_place, element_place, input_of, member_place};
-use crate::{Location, Node, Place};
+use crate::{Location, Node, ValuePlace};
 use hq_base::Memory;
 use hq_gql_tree::{Argument, Directive, Placed, Value};
 use hq_schema::{ArgDefList, Schema};
@@ -18,7 +18,7 @@ pub fn add_value<'a>(
     nodes: &mut Vec<Node<'a>>,
     schema: &'a Schema,
     value: &'a Placed,
-    place: Option<Place<'a>>,
+    place: Option<ValuePlace<'a>>,
 ) -> Result<(), Memory>
     ensures { OnOk result (map node_view nodes.new.items ≡ map node_view nodes.old.items ++ value_nodes (schema_view schema.now) (option_map place_view place.entry) (placed_view value.now)) }
 {
@@ -32,7 +32,7 @@ fn add_inside<'a>(
     nodes: &mut Vec<Node<'a>>,
     schema: &'a Schema,
     value: &'a Value,
-    place: Option<Place<'a>>,
+    place: Option<ValuePlace<'a>>,
 ) -> Result<(), Memory>
     ensures { OnOk result (map node_view nodes.new.items ≡ map node_view nodes.old.items ++ nodes_in_value (schema_view schema.now) (option_map place_view place.entry) (value_view value.now)) }
 {
@@ -52,7 +52,7 @@ fn add_elements<'a>(
     nodes: &mut Vec<Node<'a>>,
     schema: &'a Schema,
     elements: &'a Vec<Placed>,
-    place: Option<Place<'a>>,
+    place: Option<ValuePlace<'a>>,
 ) -> Result<(), Memory>
     ensures { OnOk result
         (map node_view nodes.new.items

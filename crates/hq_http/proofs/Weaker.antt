@@ -4,13 +4,13 @@ use Rattle.std.specs.declared.option.Option.{Option}
 use Rattle.std.specs.Io.KnownBytes.{IsAtEnd}
 use Rattle.hq_base.specs.declared.reply.Reply.{Reply}
 use Rattle.hq_session.specs.declared.header.Header.{Header}
-use Rattle.hq_http_request.specs.declared.judge.Place.{Place}
+use Rattle.hq_http_request.specs.declared.judge.Target.{Target}
 use Rattle.hq_http.specs.declared.respond.Response.{Response}
 use Rattle.hq_http.specs.declared.end.ConnEnd.{ConnEnd}
 use Rattle.hq_http.specs.Fields.{headers_of}
 use Rattle.hq_http.specs.Connections.{Counts, MayRespond, replied, denied, failed, unavailable, healthy, not_post, not_get, nowhere, Exchange, IsExchange, EachGoesOn, failures, failures_of, Ending, between, cut, closed, refused, read_fault, reply_fault, refusal_fault, memory, Connects}
 
-may_respond_weaker : (d d' : Type 0) (v v' : Reply → Type 0) (p : Place) (g : Response) → (d → d') → ((t : Reply) → v t → v' t) → MayRespond d v p g → MayRespond d' v' p g
+may_respond_weaker : (d d' : Type 0) (v v' : Reply → Type 0) (p : Target) (g : Response) → (d → d') → ((t : Reply) → v t → v' t) → MayRespond d v p g → MayRespond d' v' p g
 may_respond_weaker d d' v v' p g f h (replied text e q k) = replied text e q (h text k)
 may_respond_weaker d d' v v' p g f h (denied e q k) = denied e q (f k)
 may_respond_weaker d d' v v' p g f h (failed e q) = failed e q

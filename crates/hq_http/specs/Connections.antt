@@ -8,8 +8,8 @@ use Rattle.hq_base.specs.declared.reply.Reply.{Reply}
 use Rattle.hq_session.specs.declared.header.Header.{Header}
 use Rattle.hq_http_request.specs.declared.fault.Fault.{Fault}
 use Rattle.hq_http_request.specs.declared.fault.Fault.TheVariants as fault
-use Rattle.hq_http_request.specs.declared.judge.Place.{Place}
-use Rattle.hq_http_request.specs.declared.judge.Place.TheVariants as place
+use Rattle.hq_http_request.specs.declared.judge.Target.{Target}
+use Rattle.hq_http_request.specs.declared.judge.Target.TheVariants as place
 use Rattle.hq_http_request.specs.declared.judge.WholeRequest.{WholeRequest}
 use Rattle.hq_http_request.specs.declared.next.Next.TheVariants as next
 use Rattle.hq_http_request.specs.Holds.{Holds, Announces, body_length_of}
@@ -52,7 +52,7 @@ response_is_plain response.Healthy = true
 response_is_plain (response.Fault f) = false
 
 -- what a request may get that is not refused, where the responder may deny it, and may give it these replies
-pub data MayRespond (deny : Type 0) (give : Reply → Type 0) (p : Place) (r : Response) : Type 0 where
+pub data MayRespond (deny : Type 0) (give : Reply → Type 0) (p : Target) (r : Response) : Type 0 where
   replied : (reply : Reply) → p ≡ place.Graphql → r ≡ response.Replied reply → give reply → MayRespond deny give p r
   denied : p ≡ place.Graphql → r ≡ response.Fault fault.Denied → deny → MayRespond deny give p r
   failed : p ≡ place.Graphql → r ≡ response.Fault fault.Failed → MayRespond deny give p r

@@ -3,8 +3,8 @@ use Rattle.std.specs.Prelude.{ℕ, Bool, ◌&&◌, nat_le, nat_lt, List, [], ◌
 use Rattle.http.specs.StatusCode.{reason_phrase}
 use Rattle.hq_http_request.specs.declared.fault.Fault.{Fault}
 use Rattle.hq_http_request.specs.declared.fault.Fault.TheVariants.{BadRequest, Denied, NotFound, NotAllowed, LengthRequired, BodyTooLarge, HeadTooLarge, Failed, Unavailable}
-use Rattle.hq_http_request.specs.declared.judge.Place.{Place}
-use Rattle.hq_http_request.specs.declared.judge.Place.TheVariants.{Graphql, Health, NotPost, NotGet, Nowhere}
+use Rattle.hq_http_request.specs.declared.judge.Target.{Target}
+use Rattle.hq_http_request.specs.declared.judge.Target.TheVariants.{Graphql, Health, NotPost, NotGet, Nowhere}
 use Rattle.hq_http.specs.declared.reply.Manner.{Manner}
 
 -- the status of a fault
@@ -47,7 +47,7 @@ status_line status = codes "HTTP/1.1 " ++ decimal status ++ codes " " ++ phrase_
 unfoldable pub type_line : (plain : Bool) → List ℕ
 type_line plain = if plain then codes "Content-Type: text/plain; charset=utf-8\r\n" else codes "Content-Type: application/json; charset=utf-8\r\n"
 
-unfoldable pub allow_line : Place → List ℕ
+unfoldable pub allow_line : Target → List ℕ
 allow_line NotPost = codes "Allow: POST\r\n"
 allow_line NotGet = codes "Allow: GET\r\n"
 allow_line Graphql = []

@@ -2,7 +2,7 @@ ghost use Rattle.std.specs.Prelude.{◌≡◌, ◌++◌, length, OnOk, decimal, 
 ghost use Rattle.hq_http.specs.Replies.{number_of, phrase_of, status_line, type_line, allow_line, close_line, reply_head, reply_bytes, fault_text};
 
 use hq_base::{Bytes, Memory};
-use hq_http_request::{Fault, Place};
+use hq_http_request::{Fault, Target};
 use http::StatusCode;
 use itoa::Buffer;
 
@@ -12,7 +12,7 @@ pub struct Manner {
     pub status: u16,
     /// The body is plain text, and not JSON.
     pub plain: bool,
-    pub place: Place,
+    pub place: Target,
     /// The connection ends after it.
     pub closes: bool,
     /// The method was HEAD: the body is left out, and its length is told all the same.
@@ -98,13 +98,13 @@ fn type_line(plain: bool) -> &'static [u8]
 }
 
 #[tactic(auto, unfolding(crate::specs::Replies::allow_line))]
-fn allow_line(place: Place) -> &'static [u8]
+fn allow_line(place: Target) -> &'static [u8]
     ensures { result.now ≡ allow_line place }
 {
     match place {
-        Place::NotPost => b"Allow: POST\r\n",
-        Place::NotGet => b"Allow: GET\r\n",
-        Place::Graphql | Place::Health | Place::Nowhere => b"",
+        Target::NotPost => b"Allow: POST\r\n",
+        Target::NotGet => b"Allow: GET\r\n",
+        Target::Graphql | Target::Health | Target::Nowhere => b"",
     }
 }
 

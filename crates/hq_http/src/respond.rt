@@ -9,7 +9,7 @@ use crate::headers::read_headers;
 use crate::reply::{fault_text, number_of};
 use crate::responder::{Answer, Responder};
 use hq_base::Reply;
-use hq_http_request::{Fault, Place};
+use hq_http_request::{Fault, Target};
 use httparse::spans::HeaderSpan;
 use std::alloc::Global;
 
@@ -69,7 +69,7 @@ fn ask_responder<H: Responder>(
     requires small { length body.now ≤ 1048576 }
     ensures ready { H.ready responder.new }
     ensures responds { MayRespond (H.may_deny responder.old (headers_in (map (header_bytes head.now) fields.now)))
-        (H.may_give responder.old (headers_in (map (header_bytes head.now) fields.now)) body.now) Place.Graphql result }
+        (H.may_give responder.old (headers_in (map (header_bytes head.now) fields.now)) body.now) Target.Graphql result }
     ensures failures { Counts (H.faults responder.old) (failures_of result) (H.faults responder.new) }
     ensures later { H.faults responder.old ≤ H.faults responder.new }
     ensures same_deny { (headers : List Header) → H.may_deny responder.new headers → H.may_deny responder.old headers }
@@ -90,7 +90,7 @@ fn ask_responder<H: Responder>(
 pub fn respond_at<H: Responder>(
     alloc: Global,
     responder: &mut H,
-    place: Place,
+    place: Target,
     head: &[u8],
     fields: &[HeaderSpan],
     body: &[u8],
@@ -107,10 +107,10 @@ pub fn respond_at<H: Responder>(
     ensures same_give { (headers : List Header) (body : List ℕ) (reply : Reply) → H.may_give responder.new headers body reply → H.may_give responder.old headers body reply }
 {
     match place {
-        Place::Graphql => ask_responder(alloc, responder, head, fields, body),
-        Place::Health => Response::Healthy,
-        Place::NotPost => Response::Fault(Fault::NotAllowed),
-        Place::NotGet => Response::Fault(Fault::NotAllowed),
-        Place::Nowhere => Response::Fault(Fault::NotFound),
+        Target::Graphql => ask_responder(alloc, responder, head, fields, body),
+        Target::Health => Response::Healthy,
+        Target::NotPost => Response::Fault(Fault::NotAllowed),
+        Target::NotGet => Response::Fault(Fault::NotAllowed),
+        Target::Nowhere => Response::Fault(Fault::NotFound),
     }
 }

@@ -8,7 +8,7 @@ use crate::end::{ConnEnd, Sent};
 use crate::reply::{Manner, fault_text, number_of, put_reply};
 use crate::respond::Response;
 use hq_base::Bytes;
-use hq_http_request::{Fault, Place, WholeRequest};
+use hq_http_request::{Fault, Target, WholeRequest};
 use hq_io::{Link, send_all};
 
 // Makes a reply and writes it.
@@ -75,7 +75,7 @@ pub fn refuse<L: Link>(link: &mut L, out: &mut Bytes, fault: Fault, is_head: boo
     let manner = Manner {
         status,
         plain: false,
-        place: Place::Nowhere,
+        place: Target::Nowhere,
         closes: true,
         is_head,
     };

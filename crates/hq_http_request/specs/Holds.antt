@@ -7,8 +7,8 @@ use Rattle.httparse.specs.Grammar.{RequestHead, ReadsRequest, HasNoRequest, Neve
 use Rattle.httparse.specs.Spans.{RequestOverflows, RequestExceeds, name_and_value}
 use Rattle.hq_http_request.specs.declared.fault.Fault.{Fault}
 use Rattle.hq_http_request.specs.declared.fault.Fault.TheVariants as fault
-use Rattle.hq_http_request.specs.declared.judge.Place.{Place}
-use Rattle.hq_http_request.specs.declared.judge.Place.TheVariants as place
+use Rattle.hq_http_request.specs.declared.judge.Target.{Target}
+use Rattle.hq_http_request.specs.declared.judge.Target.TheVariants as place
 use Rattle.hq_http_request.specs.declared.judge.WholeRequest.{WholeRequest}
 use Rattle.hq_http_request.specs.declared.next.Next.{Next}
 use Rattle.hq_http_request.specs.declared.next.Next.TheVariants as next
@@ -25,7 +25,7 @@ Judged method minor fields (Err e) = refusal_of method minor fields ≡ Some e
 Judged method minor fields (Ok n) = (refusal_of method minor fields ≡ None) × (n ≡ body_of (value_of (codes "content-length") fields)) × (n ≤ 1048576)
 
 -- what a method asks for at a target
-abbrev pub place_of : List ℕ → List ℕ → Place
+abbrev pub place_of : List ℕ → List ℕ → Target
 place_of method target =
     if bytes_eq (before_question target) (codes "/v1/graphql") then
     (if bytes_eq method (codes "POST") then place.Graphql else place.NotPost) else (

@@ -11,7 +11,7 @@ use httparse::spans::HeaderSpan;
 
 /// What a request asks for.
 #[derive(Clone, Copy)]
-pub enum Place {
+pub enum Target {
     Graphql,
     Health,
     NotPost,
@@ -22,7 +22,7 @@ pub enum Place {
 /// A whole request that is not refused. Places count bytes from its first byte on.
 #[derive(Clone, Copy)]
 pub struct WholeRequest {
-    pub place: Place,
+    pub place: Target,
     /// The method is HEAD, so the reply has no body.
     pub is_head: bool,
     /// The connection ends after the reply.
@@ -42,24 +42,24 @@ pub fn is_method(method: &[u8], wanted: &[u8]) -> bool
 }
 
 // What a method asks for at a target.
-pub fn asked_place(method: &[u8], target: &[u8]) -> Place
+pub fn asked_place(method: &[u8], target: &[u8]) -> Target
     ensures { result ≡ place_of method.now target.now }
 {
     let path = before_question(target);
     if is_method(path, b"/v1/graphql") {
         if is_method(method, b"POST") {
-            Place::Graphql
+            Target::Graphql
         } else {
-            Place::NotPost
+            Target::NotPost
         }
     } else if is_method(path, b"/healthz") {
         if is_method(method, b"GET") {
-            Place::Health
+            Target::Health
         } else {
-            Place::NotGet
+            Target::NotGet
         }
     } else {
-        Place::Nowhere
+        Target::Nowhere
     }
 }
 

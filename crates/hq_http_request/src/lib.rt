@@ -14,5 +14,5 @@ mod tokens;
 
 pub use decided::a_head_decides;
 pub use fault::Fault;
-pub use judge::{Place, WholeRequest};
+pub use judge::{Target, WholeRequest};
 pub use next::{Next, front, next_request};

@@ -11,8 +11,8 @@ use Rattle.hq_live.specs.declared.event.Event.{Event}
 use Rattle.hq_live.specs.declared.event.Event.TheVariants as event
 use Rattle.hq_live.specs.declared.event.Sent.{Sent}
 use Rattle.hq_live.specs.declared.event.What.TheVariants as what
-use Rattle.hq_live.specs.declared.answer.Answer.{Answer}
-use Rattle.hq_live.specs.declared.answer.Answer.TheVariants.{Same, News, Missed}
+use Rattle.hq_live.specs.declared.answer.Polled.{Polled}
+use Rattle.hq_live.specs.declared.answer.Polled.TheVariants.{Same, News, Missed}
 
 -- a reply that is the last one
 yes_last : (last : Option (List ℕ)) (r : List ℕ) (b : Bool) → last ≡ Some r → b ≡ is_last last r → b ≡ true
@@ -31,7 +31,7 @@ sending : Subscription → List ℕ → Sent
 sending s reply = record { who = s.who; id = s.id; what = what.Reply reply }
 
 -- what a subscription is sent where it is not a miss
-news_said : (due : Due) (s : Subscription) (old new : ℕ) (a : Answer) → IsAnswer due s old new a → AreReplies (news s a) → news s a ≡ said due s
+news_said : (due : Due) (s : Subscription) (old new : ℕ) (a : Polled) → IsAnswer due s old new a → AreReplies (news s a) → news s a ≡ said due s
 unfolding sending
 news_said due s old new Same h k = sym (ap (λ b. one_if (not b) (sending s (reply_to due s))) (yes_last s.last (reply_to due s) (is_last s.last (reply_to due s)) h.0 refl))
 news_said due s old new (News r) h k =
@@ -40,7 +40,7 @@ news_said due s old new (News r) h k =
 news_said due s old new (Missed before after) h k = absurd k.0
 
 -- and what becomes of the subscription
-kept_renewed : (due : Due) (s : Subscription) (old new : ℕ) (a : Answer) → IsAnswer due s old new a → AreReplies (news s a) → kept s a ≡ renewed due s
+kept_renewed : (due : Due) (s : Subscription) (old new : ℕ) (a : Polled) → IsAnswer due s old new a → AreReplies (news s a) → kept s a ≡ renewed due s
 kept_renewed due s old new Same h k = ap (λ (o : Option (List ℕ)). record s { last = o }) h.0
 kept_renewed due s old new (News r) h k = ap (λ (q : List ℕ). record s { last = Some q }) h.0
 kept_renewed due s old new (Missed before after) h k = absurd k.0
@@ -56,7 +56,7 @@ replies_right [] ys h = h
 replies_right (x ∷ xs) ys h = replies_right xs ys h.1
 
 -- what all subscriptions are sent
-news_all_said : (due : Due) (old new : ℕ) (subs : List Subscription) (answers : List Answer) → AreAnswers due old new subs answers → AreReplies (news_all subs answers)
+news_all_said : (due : Due) (old new : ℕ) (subs : List Subscription) (answers : List Polled) → AreAnswers due old new subs answers → AreReplies (news_all subs answers)
     → news_all subs answers ≡ flat_map (said due) subs
 news_all_said due old new [] [] h k = refl
 news_all_said due old new [] (a ∷ answers) h k = absurd h
@@ -66,7 +66,7 @@ news_all_said due old new (s ∷ subs) (a ∷ answers) h k =
     ∙ ap (λ l. said due s ++ l) (news_all_said due h.0 new subs answers h.2 (replies_right (news s a) (news_all subs answers) k))
 
 -- and what becomes of them
-kept_all_renewed : (due : Due) (old new : ℕ) (subs : List Subscription) (answers : List Answer) → AreAnswers due old new subs answers → AreReplies (news_all subs answers)
+kept_all_renewed : (due : Due) (old new : ℕ) (subs : List Subscription) (answers : List Polled) → AreAnswers due old new subs answers → AreReplies (news_all subs answers)
     → kept_all subs answers ≡ map (renewed due) subs
 kept_all_renewed due old new [] [] h k = refl
 kept_all_renewed due old new [] (a ∷ answers) h k = absurd h

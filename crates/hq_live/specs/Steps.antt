@@ -9,7 +9,7 @@ use Rattle.hq_live.specs.declared.event.Subscription.{Subscription}
 use Rattle.hq_live.specs.declared.event.Event.{Event}
 use Rattle.hq_live.specs.declared.event.Event.TheVariants as event
 use Rattle.hq_live.specs.declared.event.Sent.{Sent}
-use Rattle.hq_live.specs.declared.answer.Answer.{Answer}
+use Rattle.hq_live.specs.declared.answer.Polled.{Polled}
 use Rattle.hq_live.specs.declared.refusal.StepRefusal.{StepRefusal}
 use Rattle.hq_live.specs.declared.refusal.StepRefusal.TheVariants as refusal
 
@@ -29,9 +29,9 @@ begun who id session body = record { who = who; id = id; session = session; body
 abbrev pub Steps : Due → (old new : ℕ) → Event → (before after : List Subscription) → List Sent → Type 0
 Steps due old new (event.Subscribe who id session body) before after sends =
     let s = begun who id session body in
-    (a : Answer) × IsAnswer due s old new a × (after ≡ before ++ kept s a ∷ []) × (sends ≡ news s a)
+    (a : Polled) × IsAnswer due s old new a × (after ≡ before ++ kept s a ∷ []) × (sends ≡ news s a)
 Steps due old new event.Tick before after sends =
-    (answers : List Answer) × AreAnswers due old new before answers × (after ≡ kept_all before answers) × (sends ≡ news_all before answers)
+    (answers : List Polled) × AreAnswers due old new before answers × (after ≡ kept_all before answers) × (sends ≡ news_all before answers)
 Steps due old new event.Reload before after sends = (after ≡ before) × (sends ≡ [])
 Steps due old new (event.Complete who id) before after sends = (after ≡ filter (λ s. not (is_of who id s)) before) × (sends ≡ [])
 Steps due old new (event.Gone who) before after sends = (after ≡ filter (λ s. not (is_by who s)) before) × (sends ≡ [])

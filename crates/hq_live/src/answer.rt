@@ -8,7 +8,7 @@ use std::alloc::Global;
 
 /// What asking for a subscription gave.
 #[derive(Drop)]
-pub enum Answer {
+pub enum Polled {
     /// The due reply is the last one.
     Same,
     /// The due reply, which differs from the last one.
@@ -32,7 +32,7 @@ pub fn ask<A: Asker>(
     alloc: Global,
     asker: &mut A,
     subscription: &Subscription,
-) -> Result<Answer, Memory>
+) -> Result<Polled, Memory>
     ensures answer { IfOk result (IsAnswer (A.due asker.old) subscription.now (A.faults asker.old) (A.faults asker.new)) }
     ensures due { A.due asker.new ≡ A.due asker.old }
     ensures next { A.next asker.new ≡ A.next asker.old }
@@ -42,12 +42,12 @@ pub fn ask<A: Asker>(
     match asker.ask(alloc, &subscription.session, subscription.body.as_slice()) {
         Asked::Reply(reply) => {
             if is_last(subscription, &reply) {
-                Ok(Answer::Same)
+                Ok(Polled::Same)
             } else {
-                Ok(Answer::News(reply))
+                Ok(Polled::News(reply))
             }
         }
-        Asked::Failed { before, after } => Ok(Answer::Missed { before, after }),
+        Asked::Failed { before, after } => Ok(Polled::Missed { before, after }),
         Asked::Memory => Err(Memory),
     }
 }
@@ -57,7 +57,7 @@ pub fn ask_all<A: Asker>(
     alloc: Global,
     asker: &mut A,
     subscriptions: &[Subscription],
-) -> Result<Vec<Answer>, Memory>
+) -> Result<Vec<Polled>, Memory>
     ensures answers { IfOk result (λ answers. AreAnswers (A.due asker.old) (A.faults asker.old) (A.faults asker.new) subscriptions.now answers.items) }
     ensures due { A.due asker.new ≡ A.due asker.old }
     ensures next { A.next asker.new ≡ A.next asker.old }

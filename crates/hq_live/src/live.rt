@@ -5,7 +5,7 @@ ghost use Rattle.hq_live.specs.Steps.{Steps, LeavesAsker, IsRefusal, IsReloadRef
 ghost use Rattle.hq_live.specs.Asking.{KeepsFiles, Moved};
 ghost use Rattle.hq_live.specs.declared.event.Event.TheVariants as event;
 
-use crate::answer::{Answer, ask, ask_all};
+use crate::answer::{Polled, ask, ask_all};
 use crate::ending::{end, end_all};
 use crate::keeping::{keep, keep_all};
 use crate::telling::{add_news, news_of_all};
@@ -62,7 +62,7 @@ impl<A: Asker> Live<A> {
 
     // Begins a subscription that is not there.
     fn begin(&mut self, alloc: Global, mut begun: Subscription) -> Result<Sends, Memory>
-        ensures ok { IfOk result (λ sends. (a : Answer) × IsAnswer (A.due self.old.asker) begun (A.faults self.old.asker) (A.faults self.new.asker) a
+        ensures ok { IfOk result (λ sends. (a : Polled) × IsAnswer (A.due self.old.asker) begun (A.faults self.old.asker) (A.faults self.new.asker) a
             × (self.new.subscriptions.items ≡ self.old.subscriptions.items ++ kept begun a ∷ []) × (sends ≡ news begun a)) }
         ensures err { OnErr result (self.new.subscriptions.items ≡ self.old.subscriptions.items) }
         ensures due { A.due self.new.asker ≡ A.due self.old.asker }

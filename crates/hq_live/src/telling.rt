@@ -1,7 +1,7 @@
 ghost use Rattle.std.specs.Prelude.{◌≡◌, ◌++◌, IfOk, OnOk};
 ghost use Rattle.hq_live.specs.Answers.{news, news_all};
 
-use crate::answer::Answer;
+use crate::answer::Polled;
 use crate::{Sends, Sent, Subscription, What};
 use hq_base::{Bytes, List, Memory};
 use std::alloc::Global;
@@ -11,14 +11,14 @@ pub fn add_news(
     alloc: Global,
     sends: &mut Sends,
     subscription: &Subscription,
-    answer: &Answer,
+    answer: &Polled,
 ) -> Result<(), Memory>
     ensures { OnOk result (sends.new ≡ sends.old ++ news subscription.now answer.now) }
 {
     let what = match answer {
-        Answer::Same => return Ok(()),
-        Answer::News(reply) => What::Reply(Bytes::from_slice(alloc, reply.as_slice())?),
-        Answer::Missed { before, after } => What::Missed {
+        Polled::Same => return Ok(()),
+        Polled::News(reply) => What::Reply(Bytes::from_slice(alloc, reply.as_slice())?),
+        Polled::Missed { before, after } => What::Missed {
             before: *before,
             after: *after,
         },
@@ -34,7 +34,7 @@ pub fn add_news(
 pub fn news_of_all(
     alloc: Global,
     subscriptions: &[Subscription],
-    answers: &[Answer],
+    answers: &[Polled],
 ) -> Result<Sends, Memory>
     ensures { IfOk result (λ sends. sends ≡ news_all subscriptions.now answers.now) }
 {

@@ -7,8 +7,8 @@ use Rattle.hq_live.specs.Asking.{Due}
 use Rattle.hq_live.specs.Answers.{AreAnswers, kept, kept_all}
 use Rattle.hq_live.specs.Steps.{Steps, is_by, is_of, begun}
 use Rattle.hq_live.specs.Runs.{Standing, Passes}
-use Rattle.hq_live.specs.declared.answer.Answer.{Answer}
-use Rattle.hq_live.specs.declared.answer.Answer.TheVariants.{Same, News, Missed}
+use Rattle.hq_live.specs.declared.answer.Polled.{Polled}
+use Rattle.hq_live.specs.declared.answer.Polled.TheVariants.{Same, News, Missed}
 use Rattle.hq_live.specs.declared.event.Subscription.{Subscription}
 use Rattle.hq_live.specs.declared.event.Event.{Event}
 use Rattle.hq_live.specs.declared.event.Event.TheVariants as event
@@ -41,7 +41,7 @@ filter_swap p q (x ∷ xs) =
 own_filter : (who : ℕ) (q : Subscription → Bool) (subs : List Subscription) → IsOwn who subs → IsOwn who (filter q subs)
 own_filter who q subs own = filter_swap (other who) q subs ∙ ap (filter q) own
 
-kept_who : (s : Subscription) (a : Answer) → (kept s a).who ≡ s.who
+kept_who : (s : Subscription) (a : Polled) → (kept s a).who ≡ s.who
 kept_who s Same = refl
 kept_who s (News reply) = refl
 kept_who s (Missed before after) = refl
@@ -63,7 +63,7 @@ cons_own true x xs e h = absurd (true≢false e)
 cons_own false x xs e h = h
 
 -- the same subscribers behind their answers
-own_kept : (who : ℕ) (subs : List Subscription) (answers : List Answer) → IsOwn who subs → IsOwn who (kept_all subs answers)
+own_kept : (who : ℕ) (subs : List Subscription) (answers : List Polled) → IsOwn who subs → IsOwn who (kept_all subs answers)
 own_kept who subs [] own = own
 own_kept who [] (a ∷ answers) own = refl
 own_kept who (s ∷ subs) (a ∷ answers) own =

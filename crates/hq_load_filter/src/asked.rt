@@ -8,7 +8,7 @@ use crate::FilterRefusal;
 use crate::refusal::misshaped;
 use crate::table::remote_at;
 use hq_base::{Json, Member, Txt, member_path};
-use hq_model::{Scope, TableId};
+use hq_model::{Described, TableId};
 use std::alloc::Global;
 
 // Whether this is a member of `_exists`.
@@ -45,7 +45,7 @@ fn check_parts(alloc: Global, path: &Txt, members: &[Member]) -> Result<(), Filt
 #[tactic(auto, unfolding(crate::specs::Asked::asked_due))]
 pub fn asked_table(
     alloc: Global,
-    scope: &Scope,
+    scope: &Described,
     path: &Txt,
     json: &Json,
 ) -> Result<TableId, FilterRefusal>

@@ -4,18 +4,18 @@ ghost use Rattle.hq_base.specs.Json.{json_view};
 ghost use Rattle.hq_model.specs.Bexp.{bexp_view};
 ghost use Rattle.hq_model.specs.Catalog.{can_pair, type_of};
 ghost use Rattle.hq_model.specs.Schema.{table};
-ghost use Rattle.hq_model.specs.Scope.{scope_schema};
+ghost use Rattle.hq_model.specs.Described.{scope_schema};
 ghost use Rattle.hq_load_filter.specs.Condition.{compared_due};
 
 use crate::FilterRefusal;
 use crate::named::column_named;
 use crate::refusal::{bad_operand, misshaped, unknown_column};
 use hq_base::{Json, Txt};
-use hq_model::{Bexp, ColId, Op, Scope, TableId, can_pair};
+use hq_model::{Bexp, ColId, Described, Op, TableId, can_pair};
 use std::alloc::Global;
 
 // Whether the values of two columns of a table can be compared.
-fn are_comparable(scope: &Scope, t: TableId, left: ColId, right: ColId) -> bool
+fn are_comparable(scope: &Described, t: TableId, left: ColId, right: ColId) -> bool
     ensures { let x = table (scope_schema scope.now) t in result ≡ can_pair (type_of (slice_get x.columns left)) (type_of (slice_get x.columns right)) }
 {
     match scope.catalog.table(t) {
@@ -31,7 +31,7 @@ fn are_comparable(scope: &Scope, t: TableId, left: ColId, right: ColId) -> bool
 #[tactic(auto, unfolding(crate::specs::Condition::compared_due))]
 pub fn compared(
     alloc: Global,
-    scope: &Scope,
+    scope: &Described,
     t: TableId,
     col: ColId,
     op: Op,

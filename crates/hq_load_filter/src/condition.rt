@@ -5,7 +5,7 @@ ghost use Rattle.hq_model.specs.Bexp.{bexp_view};
 ghost use Rattle.hq_base.specs.Look.{str_in, array_in};
 ghost use Rattle.hq_model.specs.Operators.{column_operator_named};
 ghost use Rattle.hq_model.specs.Schema.{table, column};
-ghost use Rattle.hq_model.specs.Scope.{scope_schema};
+ghost use Rattle.hq_model.specs.Described.{scope_schema};
 ghost use Rattle.hq_model.specs.declared.bexp.Operands.TheVariants as operands;
 ghost use Rattle.hq_load_filter.specs.Condition.{told_due, single_due, operands_by, listed_due, condition_due, named_due, written_on, column_due};
 ghost use Rattle.hq_load_filter.specs.Each.{each_element, each_member};
@@ -20,7 +20,7 @@ use crate::refusal::bad_operand;
 use crate::variable::variable_named;
 use hq_base::{Json, List, Member, Memory, Txt, Ty, item_path, member_path};
 use hq_model::{
-    Arity, Bexp, BexpList, ColId, Op, Operand, OperandList, Operands, Operator, Scope, TableId,
+    Arity, Bexp, BexpList, ColId, Described, Op, Operand, OperandList, Operands, Operator, TableId,
     Test,
 };
 use std::alloc::Global;
@@ -174,7 +174,7 @@ fn condition(
 // The condition of the operator of this name, whose operand stands at a path.
 fn named_condition(
     alloc: Global,
-    scope: &Scope,
+    scope: &Described,
     t: TableId,
     col: ColId,
     path: &Txt,
@@ -200,7 +200,7 @@ fn named_condition(
 // The conditions of the operators of the object at a path.
 fn conditions(
     alloc: Global,
-    scope: &Scope,
+    scope: &Described,
     t: TableId,
     col: ColId,
     path: &Txt,
@@ -227,7 +227,7 @@ fn conditions(
 #[tactic(auto, using(crate::proofs::Columns::of_object, crate::proofs::Columns::of_other))]
 pub fn conditions_on(
     alloc: Global,
-    scope: &Scope,
+    scope: &Described,
     t: TableId,
     col: ColId,
     path: &Txt,

@@ -15,7 +15,7 @@ use crate::condition::conditions_on;
 use crate::named::{Named, named_by};
 use crate::refusal::{misshaped, unknown_column};
 use hq_base::{Json, JsonList, Members, Memory, Txt, item_path, member_path};
-use hq_model::{Bexp, BexpList, Catalog, Meta, RelId, Scope, TableId};
+use hq_model::{Bexp, BexpList, Catalog, Described, Meta, RelId, TableId};
 use std::alloc::Global;
 
 /// The expression of the filter over the table `t` that stands at `path` in the file, or the refusal of its first bad
@@ -35,14 +35,14 @@ pub fn read_filter(
     ensures tracked { IfOk result (λ b. asks_tracked (meta_view meta.now) (bexp_view b) ≡ true) }
     ensures shallow { IfOk result (λ b. depth (bexp_view b) ≤ 2 * nesting (json_view json.now)) }
 {
-    filter(alloc, &Scope { catalog, meta }, t, path, json)
+    filter(alloc, &Described { catalog, meta }, t, path, json)
 }
 
 // The filter at a path.
 #[cycle(filter)]
 fn filter(
     alloc: Global,
-    scope: &Scope,
+    scope: &Described,
     t: TableId,
     path: &Txt,
     json: &Json,
@@ -59,7 +59,7 @@ fn filter(
 #[cycle(filter)]
 fn filters(
     alloc: Global,
-    scope: &Scope,
+    scope: &Described,
     t: TableId,
     path: &Txt,
     json: &Json,
@@ -76,7 +76,7 @@ fn filters(
 #[cycle(filter)]
 fn element_bexps(
     alloc: Global,
-    scope: &Scope,
+    scope: &Described,
     t: TableId,
     path: &Txt,
     elements: &JsonList,
@@ -98,7 +98,7 @@ fn element_bexps(
 #[cycle(filter)]
 fn member_bexps(
     alloc: Global,
-    scope: &Scope,
+    scope: &Described,
     t: TableId,
     path: &Txt,
     members: &Members,
@@ -122,7 +122,7 @@ fn member_bexps(
 #[cycle(filter)]
 fn member_bexp(
     alloc: Global,
-    scope: &Scope,
+    scope: &Described,
     t: TableId,
     path: &Txt,
     name: &Txt,
@@ -151,7 +151,7 @@ fn member_bexp(
 
 // The value of `_exists` at a path.
 #[cycle(filter)]
-fn exists(alloc: Global, scope: &Scope, path: &Txt, json: &Json) -> Result<Bexp, FilterRefusal>
+fn exists(alloc: Global, scope: &Described, path: &Txt, json: &Json) -> Result<Bexp, FilterRefusal>
     ensures { Gives bexp_view FilterRefusal.Memory (exists_due (json_view json.now) scope.now.catalog.now.tables (meta_view scope.now.meta.now) path.now) result }
 {
     let Json::Obj(members) = json else {
@@ -167,7 +167,7 @@ fn exists(alloc: Global, scope: &Scope, path: &Txt, json: &Json) -> Result<Bexp,
 #[cycle(filter)]
 fn where_bexp(
     alloc: Global,
-    scope: &Scope,
+    scope: &Described,
     t: TableId,
     path: &Txt,
     members: &Members,

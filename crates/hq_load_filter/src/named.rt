@@ -2,11 +2,11 @@ ghost use Rattle.std.specs.Prelude.{◌≡◌, option_map, position, bytes_eq};
 ghost use Rattle.std.specs.Option.{option_or};
 ghost use Rattle.hq_model.specs.Meta.{meta_view};
 ghost use Rattle.hq_model.specs.Schema.{table, rels_of};
-ghost use Rattle.hq_model.specs.Scope.{scope_schema};
+ghost use Rattle.hq_model.specs.Described.{scope_schema};
 ghost use Rattle.hq_load_filter.specs.Named.{connective_named, column_named, rel_named, named};
 
 use hq_base::Txt;
-use hq_model::{ColId, Column, Meta, Rel, RelId, Scope, Table, TableId};
+use hq_model::{ColId, Column, Described, Meta, Rel, RelId, Table, TableId};
 
 /// What a member of a filter names.
 #[derive(Clone, Copy)]
@@ -54,7 +54,7 @@ fn column_in(table: &Table, name: &Txt) -> Option<ColId>
 }
 
 /// The column of this name.
-pub fn column_named(scope: &Scope, t: TableId, name: &Txt) -> Option<ColId>
+pub fn column_named(scope: &Described, t: TableId, name: &Txt) -> Option<ColId>
     ensures { result ≡ column_named (table (scope_schema scope.now) t) name.now }
 {
     match scope.catalog.table(t) {
@@ -74,7 +74,7 @@ fn rel_in(meta: &Meta, t: TableId, name: &Txt) -> Option<RelId>
 }
 
 // The relationship of this name.
-fn rel_named(scope: &Scope, t: TableId, name: &Txt) -> Option<RelId>
+fn rel_named(scope: &Described, t: TableId, name: &Txt) -> Option<RelId>
     ensures { result ≡ rel_named (table (scope_schema scope.now) t) name.now }
 {
     match scope.catalog.table(t) {
@@ -84,7 +84,7 @@ fn rel_named(scope: &Scope, t: TableId, name: &Txt) -> Option<RelId>
 }
 
 // The column or relationship of this name.
-fn part_named(scope: &Scope, t: TableId, name: &Txt) -> Option<Named>
+fn part_named(scope: &Described, t: TableId, name: &Txt) -> Option<Named>
     ensures { result
         ≡ option_or (option_map Named.Column (column_named (table (scope_schema scope.now) t) name.now))
         (option_map Named.Relationship (rel_named (table (scope_schema scope.now) t) name.now)) }
@@ -97,7 +97,7 @@ fn part_named(scope: &Scope, t: TableId, name: &Txt) -> Option<Named>
 
 /// What a member of this name names in a filter over a table: a connective, else a column, else a relationship.
 #[tactic(auto, unfolding(crate::specs::Named::named))]
-pub fn named_by(scope: &Scope, t: TableId, name: &Txt) -> Option<Named>
+pub fn named_by(scope: &Described, t: TableId, name: &Txt) -> Option<Named>
     ensures { result ≡ named (table (scope_schema scope.now) t) name.now }
 {
     match connective_named(name.as_str()) {

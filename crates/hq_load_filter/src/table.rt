@@ -9,7 +9,7 @@ ghost use Rattle.hq_load_filter.specs.Tables.{text_member, table_named, qualifie
 use crate::FilterRefusal;
 use crate::refusal::{misshaped, unknown_table};
 use hq_base::{Json, Txt, member_path};
-use hq_model::{Meta, Scope, Table, TableId};
+use hq_model::{Described, Meta, Table, TableId};
 use std::alloc::Global;
 
 // The text of a member, where the object has one.
@@ -118,7 +118,7 @@ pub fn tracked_table(
 #[tactic(auto, unfolding(crate::specs::Tables::remote_at))]
 pub fn remote_at(
     alloc: Global,
-    scope: &Scope,
+    scope: &Described,
     path: &Txt,
     json: &Json,
 ) -> Result<TableId, FilterRefusal>

@@ -184,7 +184,8 @@ permitted-schema tables path js n long =
     let entries = zip (tables_of n) js in
     ok_and_then (λ perms. Ok (with_perms n perms)) (Behind (λ e ps. ⊤) [] entries) (λ q. schema_of tables q ≡ schema_of tables n)
     (λ perms h. same_schema tables n perms
-    (ap length h.are ∙ AllZip-long (λ e ps. ⊤) entries h.new h.beside ∙ long_zip (tables_of n) js (long ∙ sym (length-map n.tracked (λ (k : TrackedTree). k.table))) ∙ length-map n.tracked (λ (k : TrackedTree). k.table)))
+    (ap length h.are ∙ AllZip-long (λ e ps. ⊤) entries h.new h.beside
+    ∙ long_zip (tables_of n) js (long ∙ sym (length-map n.tracked (λ (k : TrackedTree). k.table))) ∙ length-map n.tracked (λ (k : TrackedTree). k.table)))
     (each (perms_at tables n) path entries)
     (each_after-Behind (λ e ps. ⊤) (λ before. perms_at tables n) (λ before p e. ok_always (perms_at tables n p e)) path 0 [] entries)
 

@@ -16,7 +16,7 @@ use hq_load_meta_tables::found::{
 };
 use hq_load_meta_tables::node::{at, list_at, member_at, named_path, object_at, text_at};
 use hq_model::{
-    Catalog, ColId, ColList, Column, ForeignKey, Pair, PairList, Scope, TableId, can_pair,
+    Catalog, ColId, ColList, Column, Described, ForeignKey, Pair, PairList, TableId, can_pair,
 };
 use std::alloc::Global;
 
@@ -132,7 +132,7 @@ fn remote_key<'a>(
 #[tactic(auto, unfolding(crate::specs::Linked::by_own_key))]
 fn by_own_key(
     alloc: Global,
-    scope: &Scope,
+    scope: &Described,
     table: TableId,
     path: &Txt,
     columns: &[ColId],
@@ -189,7 +189,7 @@ fn just_one(a: Option<&Json>, b: Option<&Json>) -> bool
 #[tactic(auto, unfolding(crate::specs::Linked::by_remote_key))]
 fn by_remote_key(
     alloc: Global,
-    scope: &Scope,
+    scope: &Described,
     table: TableId,
     path: &Txt,
     json: &Json,
@@ -229,7 +229,7 @@ fn by_remote_key(
 // it is a key of a remote table.
 fn by_key(
     alloc: Global,
-    scope: &Scope,
+    scope: &Described,
     table: TableId,
     many: bool,
     path: &Txt,
@@ -322,7 +322,7 @@ fn pairs_at(
 #[tactic(auto, unfolding(crate::specs::Linked::by_hand))]
 fn by_hand(
     alloc: Global,
-    scope: &Scope,
+    scope: &Described,
     table: TableId,
     path: &Txt,
     json: &Json,
@@ -348,7 +348,7 @@ fn by_hand(
 #[tactic(auto, unfolding(crate::specs::Linked::link_at))]
 pub fn link_at(
     alloc: Global,
-    scope: &Scope,
+    scope: &Described,
     table: TableId,
     many: bool,
     path: &Txt,

@@ -27,7 +27,7 @@ use hq_load_meta_tables::node::{
 };
 use hq_load_meta_tables::tracking::tables_of;
 use hq_model::{
-    Bexp, Catalog, ColId, ColList, Column, Meta, Perm, PermList, Scope, TableId, Tracked,
+    Bexp, Catalog, ColId, ColList, Column, Described, Meta, Perm, PermList, TableId, Tracked,
 };
 use std::alloc::Global;
 
@@ -146,7 +146,7 @@ fn boxed(alloc: Global, filter: Bexp) -> Result<Box<Bexp>, Memory>
 // The filter over a table that a member of the object at a path gives, in a box, so that it is let go in one step.
 fn filter_at(
     alloc: Global,
-    scope: &Scope,
+    scope: &Described,
     table: TableId,
     path: &Txt,
     json: &Json,
@@ -209,7 +209,7 @@ fn check_absent(alloc: Global, path: &Txt, object: &Json, field: Field) -> Resul
 #[tactic(auto, unfolding(crate::specs::Permitted::permission_at))]
 fn permission_at(
     alloc: Global,
-    scope: &Scope,
+    scope: &Described,
     table: TableId,
     role: &Txt,
     path: &Txt,
@@ -241,7 +241,7 @@ fn permission_at(
 #[tactic(auto, unfolding(crate::specs::Permitted::perm_at))]
 fn perm_at(
     alloc: Global,
-    scope: &Scope,
+    scope: &Described,
     table: TableId,
     before: &[Perm],
     path: &Txt,
@@ -267,7 +267,7 @@ fn perm_at(
 // The select permissions of the list at a path, on a table.
 fn listed_perms(
     alloc: Global,
-    scope: &Scope,
+    scope: &Described,
     table: TableId,
     path: &Txt,
     list: &[Json],
@@ -289,7 +289,7 @@ fn listed_perms(
 #[tactic(auto, unfolding(crate::specs::Permitted::perms_at))]
 fn perms_at(
     alloc: Global,
-    scope: &Scope,
+    scope: &Described,
     path: &Txt,
     table: TableId,
     entry: &Json,
@@ -306,7 +306,7 @@ fn perms_at(
 // The permissions of tables, whose entries stand in the list at a path.
 fn all_perms(
     alloc: Global,
-    scope: &Scope,
+    scope: &Described,
     path: &Txt,
     tables: &[TableId],
     list: &[Json],
@@ -361,7 +361,7 @@ pub fn permitted(
     ensures due { Gives meta_view MetaRefusal.Memory (permitted catalog.now.tables path.now (map json_view list.now) (meta_view meta)) result }
     ensures sound { IfOk result (λ joined. TablesSound catalog.now.tables (meta_view meta) (meta_view joined).tracked) }
 {
-    let scope = Scope {
+    let scope = Described {
         catalog,
         meta: &meta,
     };

@@ -13,7 +13,7 @@ use hq_load_meta_tables::node::{
     at, entries_member, free_name_at, member_at, object_at, object_member,
 };
 use hq_load_meta_tables::tracking::tables_of;
-use hq_model::{Catalog, Meta, Rel, RelList, Scope, TableId, Tracked};
+use hq_model::{Catalog, Described, Meta, Rel, RelList, TableId, Tracked};
 use std::alloc::Global;
 
 // The name of a relationship at a path. That of an array one is not `_`, since its field for aggregates would be `__aggregate`.
@@ -39,7 +39,7 @@ fn rel_name_at<'a>(
 #[tactic(auto, unfolding(crate::specs::Related::rel_at))]
 fn rel_at(
     alloc: Global,
-    scope: &Scope,
+    scope: &Described,
     table: TableId,
     many: bool,
     path: &Txt,
@@ -70,7 +70,7 @@ fn rel_at(
 // The relationships of the list at a path, behind those before them.
 fn listed_rels(
     alloc: Global,
-    scope: &Scope,
+    scope: &Described,
     table: TableId,
     many: bool,
     path: &Txt,
@@ -101,7 +101,7 @@ fn listed_rels(
 #[tactic(auto, unfolding(crate::specs::Related::objects_at))]
 fn objects_at(
     alloc: Global,
-    scope: &Scope,
+    scope: &Described,
     path: &Txt,
     table: TableId,
     entry: &Json,
@@ -117,7 +117,7 @@ fn objects_at(
 #[tactic(auto, unfolding(crate::specs::Related::rels_at))]
 fn rels_at(
     alloc: Global,
-    scope: &Scope,
+    scope: &Described,
     path: &Txt,
     table: TableId,
     entry: &Json,
@@ -133,7 +133,7 @@ fn rels_at(
 // The relationships of tables, whose entries stand in the list at a path.
 fn all_rels(
     alloc: Global,
-    scope: &Scope,
+    scope: &Described,
     path: &Txt,
     tables: &[TableId],
     list: &[Json],
@@ -180,7 +180,7 @@ pub fn related(
 ) -> Result<Meta, MetaRefusal>
     ensures { Gives meta_view MetaRefusal.Memory (related catalog.now.tables path.now (map json_view list.now) (meta_view meta)) result }
 {
-    let scope = Scope {
+    let scope = Described {
         catalog,
         meta: &meta,
     };

@@ -3,7 +3,7 @@ ghost use Rattle.hq_base.specs.Due.{Gives};
 ghost use Rattle.hq_model.specs.Meta.{meta_view, tracked_view};
 ghost use Rattle.hq_model.specs.Schema.{schema_of};
 ghost use Rattle.hq_model.specs.SchemaNames.{fixed_types, types_of, roots_of, names_differ, scalars_differ};
-ghost use Rattle.hq_model.specs.Scope.{scope_schema};
+ghost use Rattle.hq_model.specs.Described.{scope_schema};
 ghost use Rattle.hq_load_meta_names.specs.Repeats.{with_table, with_tables, scalars_due, names_due};
 
 use crate::NameRefusal;
@@ -14,11 +14,11 @@ use crate::scalars::are_unlike;
 use crate::shown::{aggregates_over, has_columns, has_key, named_columns};
 use crate::types::{roots_by, types_by};
 use hq_base::{List, Memory, Txt, item_path};
-use hq_model::{Catalog, Meta, Scope, Tracked, TxtList};
+use hq_model::{Catalog, Described, Meta, Tracked, TxtList};
 use std::alloc::Global;
 
 // The types of a table, none where it stands in no schema.
-fn types_of(alloc: Global, scope: &Scope, tracked: &Tracked) -> Result<TxtList, Memory>
+fn types_of(alloc: Global, scope: &Described, tracked: &Tracked) -> Result<TxtList, Memory>
     ensures { IfOk result (λ names. names ≡ types_of (scope_schema scope.now) (tracked_view tracked.now)) }
 {
     let columns = named_columns(alloc, tracked)?;
@@ -28,7 +28,7 @@ fn types_of(alloc: Global, scope: &Scope, tracked: &Tracked) -> Result<TxtList, 
 }
 
 // The root fields of a table, none where it stands in no schema.
-fn roots_of(alloc: Global, scope: &Scope, tracked: &Tracked) -> Result<TxtList, Memory>
+fn roots_of(alloc: Global, scope: &Described, tracked: &Tracked) -> Result<TxtList, Memory>
     ensures { IfOk result (λ names. names ≡ roots_of (scope_schema scope.now) (tracked_view tracked.now)) }
 {
     let columns = named_columns(alloc, tracked)?;
@@ -40,7 +40,7 @@ fn roots_of(alloc: Global, scope: &Scope, tracked: &Tracked) -> Result<TxtList, 
 #[tactic(auto, unfolding(crate::specs::Repeats::with_table))]
 fn with_table(
     alloc: Global,
-    scope: &Scope,
+    scope: &Described,
     path: &Txt,
     shared: Shared,
     tracked: &Tracked,
@@ -58,7 +58,7 @@ fn with_table(
 // The names of the tables of the list at a path.
 fn with_tables(
     alloc: Global,
-    scope: &Scope,
+    scope: &Described,
     path: &Txt,
     shared: Shared,
     tracked: &[Tracked],
@@ -76,7 +76,7 @@ fn with_tables(
 // Whether the scalars of a table's columns differ from these types.
 fn scalars_differ(
     alloc: Global,
-    scope: &Scope,
+    scope: &Described,
     types: &[Txt],
     tracked: &Tracked,
 ) -> Result<bool, Memory>
@@ -89,7 +89,7 @@ fn scalars_differ(
 // The scalars of the tables of the list at a path, beside all other types.
 fn check_scalars(
     alloc: Global,
-    scope: &Scope,
+    scope: &Described,
     types: &[Txt],
     path: &Txt,
     tracked: &[Tracked],
@@ -111,7 +111,7 @@ fn check_scalars(
 fn names_of(alloc: Global, catalog: &Catalog, meta: &Meta, path: &Txt) -> Result<(), NameRefusal>
     ensures { Gives (λ done. done) NameRefusal.Memory (names_due (schema_of catalog.now.tables (meta_view meta.now)) (meta_view meta.now) path.now) result }
 {
-    let scope = Scope { catalog, meta };
+    let scope = Described { catalog, meta };
     let known = Shared {
         types: fixed_types(alloc)?,
         roots: List::new(alloc),

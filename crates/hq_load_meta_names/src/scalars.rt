@@ -3,10 +3,10 @@ ghost use Rattle.std.specs.Prelude.{◌≡◌, option_copied};
 ghost use Rattle.std.specs.List.{list_all};
 ghost use Rattle.hq_model.specs.Schema.{column};
 ghost use Rattle.hq_model.specs.SchemaNames.{is_unlike, scalar_of};
-ghost use Rattle.hq_model.specs.Scope.{scope_schema};
+ghost use Rattle.hq_model.specs.Described.{scope_schema};
 
 use hq_base::Txt;
-use hq_model::{ColId, Scope, TableId};
+use hq_model::{ColId, Described, TableId};
 
 // Whether a scalar, where there is one, has the name of none of these types.
 fn is_unlike(types: &[Txt], scalar: Option<&Txt>) -> bool
@@ -19,7 +19,7 @@ fn is_unlike(types: &[Txt], scalar: Option<&Txt>) -> bool
 }
 
 // The same of that of a column.
-fn column_is_unlike(scope: &Scope, types: &[Txt], t: TableId, col: ColId) -> bool
+fn column_is_unlike(scope: &Described, types: &[Txt], t: TableId, col: ColId) -> bool
     ensures { result ≡ is_unlike types.now (scalar_of (column (scope_schema scope.now) t col)) }
 {
     match scope.column(t, col) {
@@ -29,7 +29,7 @@ fn column_is_unlike(scope: &Scope, types: &[Txt], t: TableId, col: ColId) -> boo
 }
 
 /// Whether the scalars of these columns of a table have the names of none of these types.
-pub fn are_unlike(scope: &Scope, types: &[Txt], t: TableId, columns: &[ColId]) -> bool
+pub fn are_unlike(scope: &Described, types: &[Txt], t: TableId, columns: &[ColId]) -> bool
     ensures { result ≡ list_all (λ c. is_unlike types.now (scalar_of (column (scope_schema scope.now) t c))) columns.now }
 {
     for column in columns {

@@ -6,11 +6,11 @@ ghost use Rattle.hq_model.specs.Names.{is_free_name};
 ghost use Rattle.hq_model.specs.Permission.{named_columns};
 ghost use Rattle.hq_model.specs.Schema.{table};
 ghost use Rattle.hq_model.specs.SchemaNames.{has_columns, is_in_schema, column_names_of};
-ghost use Rattle.hq_model.specs.Scope.{scope_schema};
+ghost use Rattle.hq_model.specs.Described.{scope_schema};
 ghost use Rattle.hq_load_meta_names.specs.Types.{is_over};
 
 use hq_base::{Aggregate, List, Memory, Txt};
-use hq_model::{ColId, ColList, Meta, Scope, TableId, Tracked, TxtList, is_free_name};
+use hq_model::{ColId, ColList, Described, Meta, TableId, Tracked, TxtList, is_free_name};
 use std::alloc::Global;
 
 /// The columns of a table that may stand in a schema.
@@ -52,7 +52,7 @@ pub fn is_in_schema(meta: &Meta, table: TableId) -> bool
 }
 
 // Whether an aggregate is one of the values of some of these columns of a table.
-fn is_over(scope: &Scope, table: TableId, columns: &[ColId], aggregate: Aggregate) -> bool
+fn is_over(scope: &Described, table: TableId, columns: &[ColId], aggregate: Aggregate) -> bool
     ensures { result ≡ is_over (scope_schema scope.now) table columns.now aggregate }
 {
     for column in columns {
@@ -66,7 +66,7 @@ fn is_over(scope: &Scope, table: TableId, columns: &[ColId], aggregate: Aggregat
 // Those of these aggregates that are.
 fn those_over(
     alloc: Global,
-    scope: &Scope,
+    scope: &Described,
     table: TableId,
     columns: &[ColId],
     aggregates: &[Aggregate],
@@ -85,7 +85,7 @@ fn those_over(
 /// The aggregates that are ones of the values of some of these columns of a table.
 pub fn aggregates_over(
     alloc: Global,
-    scope: &Scope,
+    scope: &Described,
     table: TableId,
     columns: &[ColId],
 ) -> Result<Vec<Aggregate>, Memory>
@@ -109,7 +109,7 @@ fn all_among(key: &[ColId], columns: &[ColId]) -> bool
 }
 
 /// Whether all columns of a table's key are among these.
-pub fn has_key(scope: &Scope, t: TableId, columns: &[ColId]) -> bool
+pub fn has_key(scope: &Described, t: TableId, columns: &[ColId]) -> bool
     ensures { result ≡ list_all (λ c. list_any (λ d. d == c) columns.now) (table (scope_schema scope.now) t).key }
 {
     match scope.catalog.table(t) {

@@ -9,7 +9,7 @@ ghost use Rattle.hq_load_meta_tables.specs.Found.{table_at, tracked_due, remote_
 use crate::MetaRefusal;
 use crate::node::text_at;
 use hq_base::{Json, List, Txt, item_path};
-use hq_model::{Catalog, ColId, ColList, Column, Meta, Scope, Table, TableId};
+use hq_model::{Catalog, ColId, ColList, Column, Described, Meta, Table, TableId};
 use std::alloc::Global;
 
 /// The table of the catalog that a node names: a text is the name of one of the schema `public`.
@@ -42,7 +42,7 @@ pub fn tracked_table(
 #[tactic(auto, unfolding(crate::specs::Found::remote_at))]
 pub fn remote_at(
     alloc: Global,
-    scope: &Scope,
+    scope: &Described,
     path: &Txt,
     json: &Json,
 ) -> Result<TableId, MetaRefusal>

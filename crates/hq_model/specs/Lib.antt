@@ -9,7 +9,7 @@ pub mod Meta
 pub mod Schema
 pub mod Logic
 pub mod Seen
-pub mod Scope
+pub mod Described
 pub mod Truth
 pub mod Permission
 pub mod PermView

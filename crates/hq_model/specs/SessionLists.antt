@@ -8,8 +8,8 @@ use Rattle.hq_base.specs.declared.value.Ty.{Ty}
 use Rattle.hq_base.specs.declared.value.Ty.TheVariants.{Integer, Bigint, Text, Boolean, Uuid, Opaque}
 use Rattle.hq_base.specs.declared.value.Val.{Val}
 use Rattle.hq_model.specs.Tests.{Test, reads}
-use Rattle.hq_model.specs.declared.session_list.Place.{Place}
-use Rattle.hq_model.specs.declared.session_list.Place.TheVariants.{Before, Plain, Quoted, Escaped, Behind}
+use Rattle.hq_model.specs.declared.session_list.ListState.{ListState}
+use Rattle.hq_model.specs.declared.session_list.ListState.TheVariants.{Before, Plain, Quoted, Escaped, Behind}
 use Rattle.hq_model.specs.declared.session_list.Step.{Step}
 use Rattle.hq_model.specs.declared.session_list.Step.TheVariants.{Own, Gap, Pass, Comma, Close, Wrong}
 use Rattle.hq_model.specs.declared.want.Want.{Want}
@@ -30,7 +30,7 @@ step_plain c = cond (is_mark c) Wrong (Own Plain)
 -- What a byte does at a place: it is the element's own, a space that is its own where more of it follows, passed over, the
 -- end of the element or of the list, or wrong. An element is `"`, bytes of which `\` takes the next one, and `"`; or it has
 -- no mark, and neither begins nor ends with a space. Spaces around an element are passed over.
-abbrev pub step : Place → ℕ → Step
+abbrev pub step : ListState → ℕ → Step
 step Before c = cond (c == 32) (Pass Before) (cond (c == 34) (Pass Quoted) (cond ((c == 44) || (c == 125)) Wrong (step_plain c)))
 step Plain c = cond (c == 32) Gap (step_behind (step_plain c) c)
 step Quoted c = cond (c == 34) (Pass Behind) (cond (c == 92) (Pass Escaped) (Own Quoted))
@@ -42,7 +42,7 @@ abbrev pub is_null_word : List ℕ → Bool
 is_null_word element = str_eq_ignore_ascii_case element (codes "NULL")
 
 -- an element may end: without quotes it is not NULL
-abbrev pub may_end : Place → List ℕ → Bool
+abbrev pub may_end : ListState → List ℕ → Bool
 may_end Plain element = not (is_null_word element)
 may_end Before element = true
 may_end Quoted element = true
@@ -55,7 +55,7 @@ last_of element [] = Some (element ∷ [])
 last_of element (c ∷ cs) = None
 
 -- the elements from a byte on, by what it does: the element at hand, the spaces behind it, and how the list goes on
-abbrev pub elements_after : Step → Place → (element gap : List ℕ) → ℕ → (rest : List ℕ) → (on : Place → (element gap : List ℕ) → Option (List (List ℕ))) → Option (List (List ℕ))
+abbrev pub elements_after : Step → ListState → (element gap : List ℕ) → ℕ → (rest : List ℕ) → (on : ListState → (element gap : List ℕ) → Option (List (List ℕ))) → Option (List (List ℕ))
 elements_after (Own next) place element gap c cs on = on next (element ++ gap ++ c ∷ []) []
 elements_after Gap place element gap c cs on = on place element (gap ++ c ∷ [])
 elements_after (Pass next) place element gap c cs on = on next element gap
@@ -64,7 +64,7 @@ elements_after Close place element gap c cs on = cond (may_end place element) (l
 elements_after Wrong place element gap c cs on = None
 
 -- the elements from a place on: what is there of the element at hand, and the spaces behind it
-abbrev pub elements_from : Place → (element gap rest : List ℕ) → Option (List (List ℕ))
+abbrev pub elements_from : ListState → (element gap rest : List ℕ) → Option (List (List ℕ))
 elements_from place element gap [] = None
 elements_from place element gap (c ∷ cs) = elements_after (step place c) place element gap c cs (λ next e g. elements_from next e g cs)
 

@@ -42,9 +42,9 @@ pub use operator::Operator;
 pub use perm::{Mask, MaskList, PermView};
 pub use reading::{is_text_of, truth_value, whole_number};
 pub use role::Role;
-pub use scope::Scope;
+pub use scope::Described;
 pub use session::{Session, Var, VarList};
-pub use session_list::{Place, Step};
+pub use session_list::{ListState, Step};
 pub use table::{
     Column, ColumnList, ForeignKey, ForeignKeyList, Table, TableList, can_pair, table_place,
 };

@@ -7,15 +7,15 @@ use hq_base::Ty;
 
 /// The tables and relationships over which an expression stands.
 #[derive(Clone, Copy)]
-pub struct Scope<'a> {
+pub struct Described<'a> {
     pub catalog: &'a Catalog,
     pub meta: &'a Meta,
 }
 
-impl<'a> Scope<'a> {
+impl<'a> Described<'a> {
     ghost use Rattle.std.specs.Prelude.{◌≡◌, option_copied, slice_get};
     ghost use Rattle.hq_model.specs.Schema.{table, column, rel};
-    ghost use Rattle.hq_model.specs.Scope.{scope_schema};
+    ghost use Rattle.hq_model.specs.Described.{scope_schema};
 
     /// A column of a table.
     pub fn column(&self, t: TableId, c: ColId) -> Option<&'a Column>

@@ -3,7 +3,7 @@
 /// Where in a session list a byte stands: before an element, in one without quotes, inside quotes, behind a `\`, or behind
 /// the quotes.
 #[derive(Clone, Copy, PartialEq, Eq)]
-pub enum Place {
+pub enum ListState {
     Before,
     Plain,
     Quoted,
@@ -15,11 +15,11 @@ pub enum Place {
 #[derive(Clone, Copy, PartialEq, Eq)]
 pub enum Step {
     /// It is a byte of the element.
-    Own(Place),
+    Own(ListState),
     /// It is a space, and one of the element where more of that follows.
     Gap,
     /// It is passed over.
-    Pass(Place),
+    Pass(ListState),
     /// It ends the element.
     Comma,
     /// It ends the list.

@@ -12,7 +12,7 @@ use Rattle.hq_model.specs.declared.bexp.Operand.{Operand}
 use Rattle.hq_model.specs.declared.bexp.Operand.TheVariants.{Const}
 use Rattle.hq_model_binding.specs.declared.session_list.Next.{Next}
 use Rattle.hq_model_binding.specs.declared.session_list.Next.TheVariants.{On, Over, Wrong}
-use Rattle.hq_model.specs.declared.session_list.Place.TheVariants.{Before}
+use Rattle.hq_model.specs.declared.session_list.ListState.TheVariants.{Before}
 use Rattle.hq_model_binding.specs.declared.session_list.Reader.{Reader}
 
 -- nothing before a list leaves it as it is

@@ -4,11 +4,11 @@ ghost use Rattle.hq_model.specs.Bexp.{bexp_view, bexps_of};
 ghost use Rattle.hq_model.specs.Binding.{bound, bound_all};
 ghost use Rattle.hq_model.specs.Meta.{meta_view};
 ghost use Rattle.hq_model.specs.Schema.{schema_of};
-ghost use Rattle.hq_model.specs.Scope.{scope_schema};
+ghost use Rattle.hq_model.specs.Described.{scope_schema};
 ghost use Rattle.hq_model.specs.declared.bind.BindRefusal.TheVariants as refusal;
 
 use crate::operand::bind_operands;
-use hq_model::{Bexp, BexpList, BindRefusal, Catalog, Meta, Scope, Session, TableId};
+use hq_model::{Bexp, BexpList, BindRefusal, Catalog, Described, Meta, Session, TableId};
 use std::alloc::Global;
 
 /// The expression over the table `t` for a session: each session name replaced by the session's text, read as the
@@ -24,14 +24,14 @@ pub fn bind(
 ) -> Result<Bexp, BindRefusal>
     ensures { Gives bexp_view refusal.Memory (bound (bexp_view bexp.now) (schema_of catalog.now.tables (meta_view meta.now)) session.now.vars t) result }
 {
-    bind_bexp(alloc, session, &Scope { catalog, meta }, t, bexp)
+    bind_bexp(alloc, session, &Described { catalog, meta }, t, bexp)
 }
 
 #[cycle(bind)]
 fn bind_bexp(
     alloc: Global,
     session: &Session,
-    scope: &Scope,
+    scope: &Described,
     t: TableId,
     bexp: &Bexp,
 ) -> Result<Bexp, BindRefusal>
@@ -85,7 +85,7 @@ fn bind_bexp(
 fn bind_bexps(
     alloc: Global,
     session: &Session,
-    scope: &Scope,
+    scope: &Described,
     t: TableId,
     bexps: &BexpList,
 ) -> Result<BexpList, BindRefusal>

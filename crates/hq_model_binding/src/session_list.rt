@@ -2,10 +2,10 @@
 ghost use Rattle.std.specs.Prelude.{◌≡◌, IfOk, [], map, option_map};
 ghost use Rattle.hq_model.specs.SessionLists.{element_value, element_values, elements_from, elements_of, is_null_word, list_want, listed_values, may_end, step, step_behind, step_plain};
 ghost use Rattle.hq_model.specs.declared.bexp.Operand.TheVariants as operand;
-ghost use Rattle.hq_model.specs.declared.session_list.Place.TheVariants as place;
+ghost use Rattle.hq_model.specs.declared.session_list.ListState.TheVariants as place;
 
 use hq_base::{Bytes, List, Memory, Txt, TxtRefusal, Ty, Val};
-use hq_model::{Operand, OperandList, Place, Step, Test, Want, read_operand};
+use hq_model::{ListState, Operand, OperandList, Step, Test, Want, read_operand};
 use std::alloc::Global;
 
 // What the byte behind an element does.
@@ -25,7 +25,7 @@ fn step_plain(byte: u8) -> Step
     if byte == b'{' || byte == b'"' || byte == b'\\' {
         Step::Wrong
     } else {
-        Step::Own(Place::Plain)
+        Step::Own(ListState::Plain)
     }
 }
 
@@ -33,8 +33,8 @@ fn step_before(byte: u8) -> Step
     ensures { result ≡ step place.Before byte }
 {
     match byte {
-        b' ' => Step::Pass(Place::Before),
-        b'"' => Step::Pass(Place::Quoted),
+        b' ' => Step::Pass(ListState::Before),
+        b'"' => Step::Pass(ListState::Quoted),
         b',' | b'}' => Step::Wrong,
         _ => step_plain(byte),
     }
@@ -44,24 +44,24 @@ fn step_quoted(byte: u8) -> Step
     ensures { result ≡ step place.Quoted byte }
 {
     match byte {
-        b'"' => Step::Pass(Place::Behind),
-        b'\\' => Step::Pass(Place::Escaped),
-        _ => Step::Own(Place::Quoted),
+        b'"' => Step::Pass(ListState::Behind),
+        b'\\' => Step::Pass(ListState::Escaped),
+        _ => Step::Own(ListState::Quoted),
     }
 }
 
 // What a byte does at a place.
-fn step_at(place: Place, byte: u8) -> Step
+fn step_at(place: ListState, byte: u8) -> Step
     ensures { result ≡ step place byte }
 {
     match place {
-        Place::Before => step_before(byte),
-        Place::Plain if byte == b' ' => Step::Gap,
-        Place::Plain => step_behind(step_plain(byte), byte),
-        Place::Quoted => step_quoted(byte),
-        Place::Escaped => Step::Own(Place::Quoted),
-        Place::Behind if byte == b' ' => Step::Pass(Place::Behind),
-        Place::Behind => step_behind(Step::Wrong, byte),
+        ListState::Before => step_before(byte),
+        ListState::Plain if byte == b' ' => Step::Gap,
+        ListState::Plain => step_behind(step_plain(byte), byte),
+        ListState::Quoted => step_quoted(byte),
+        ListState::Escaped => Step::Own(ListState::Quoted),
+        ListState::Behind if byte == b' ' => Step::Pass(ListState::Behind),
+        ListState::Behind => step_behind(Step::Wrong, byte),
     }
 }
 
@@ -69,7 +69,7 @@ fn step_at(place: Place, byte: u8) -> Step
 // elements that are over.
 #[derive(Drop)]
 struct Reader {
-    place: Place,
+    place: ListState,
     element: Bytes,
     gap: Bytes,
     elements: List<Bytes>,
@@ -93,12 +93,12 @@ fn is_null_word(element: &[u8]) -> bool
 }
 
 // Whether the element at hand may end at this place.
-fn may_end(place: Place, element: &[u8]) -> bool
+fn may_end(place: ListState, element: &[u8]) -> bool
     ensures { result ≡ may_end place element.now }
 {
     match place {
-        Place::Plain => !is_null_word(element),
-        Place::Before | Place::Quoted | Place::Escaped | Place::Behind => true,
+        ListState::Plain => !is_null_word(element),
+        ListState::Before | ListState::Quoted | ListState::Escaped | ListState::Behind => true,
     }
 }
 
@@ -107,7 +107,7 @@ fn at_element(alloc: Global, elements: List<Bytes>) -> Reader
     ensures { result ≡ record { place = place.Before; element = []; gap = []; elements = elements } }
 {
     Reader {
-        place: Place::Before,
+        place: ListState::Before,
         element: Bytes::new(alloc),
         gap: Bytes::new(alloc),
         elements,
@@ -119,7 +119,7 @@ impl Reader {
     ghost use Rattle.hq_model_binding.specs.SessionReading.{Follows};
 
     // Behind a byte of the element.
-    fn own(self, alloc: Global, next: Place, byte: u8) -> Result<Reader, Memory>
+    fn own(self, alloc: Global, next: ListState, byte: u8) -> Result<Reader, Memory>
         ensures { IfOk result (λ r. r ≡ record self { place = next; element = self.element ++ self.gap ++ byte ∷ []; gap = [] }) }
     {
         let Reader {

@@ -2,7 +2,7 @@
 use Rattle.std.specs.Prelude.{List, map}
 use Rattle.hq_schema.specs.Schema.{SchemaTree, schema_view}
 use Rattle.hq_model.specs.Schema.{Schema}
-use Rattle.hq_model.specs.Scope.{scope_schema}
+use Rattle.hq_model.specs.Described.{scope_schema}
 use Rattle.hq_request_coerce.specs.Variables.{VarTree, var_view}
 use Rattle.hq_request_arguments.specs.declared.context.Context.{Context as RustContext}
 

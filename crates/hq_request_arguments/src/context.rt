@@ -1,4 +1,4 @@
-use hq_model::Scope;
+use hq_model::Described;
 use hq_request_coerce::VarValues;
 use hq_schema::Schema;
 
@@ -8,5 +8,5 @@ use hq_schema::Schema;
 pub struct Context<'a> {
     pub vars: &'a VarValues,
     pub schema: &'a Schema,
-    pub scope: Scope<'a>,
+    pub scope: Described<'a>,
 }

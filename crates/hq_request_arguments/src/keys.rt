@@ -5,7 +5,7 @@ ghost use Rattle.hq_base.specs.Json.{json_view};
 ghost use Rattle.hq_gql_tree.specs.Values.{argument_view};
 ghost use Rattle.hq_schema.specs.Schema.{arg_view};
 ghost use Rattle.hq_model.specs.Schema.{table};
-ghost use Rattle.hq_model.specs.Scope.{scope_schema};
+ghost use Rattle.hq_model.specs.Described.{scope_schema};
 ghost use Rattle.hq_request_arguments.specs.Context.{context_view};
 ghost use Rattle.hq_request_arguments.specs.Given.{given_view};
 ghost use Rattle.hq_request_arguments.specs.Keys.{is_for, key_argument, key_value, given_for, part_due, key_due};
@@ -16,7 +16,7 @@ use crate::reading::{Given, argument_named, given_of};
 use crate::{ArgRefusal, Context};
 use hq_base::{Json, List, Memory, Ty, Val};
 use hq_gql_tree::{Argument, RuleId};
-use hq_model::{ColId, Scope, TableId, constant_in};
+use hq_model::{ColId, Described, TableId, constant_in};
 use hq_request_tree::ValList;
 use hq_schema::{ArgDef, ArgOrigin};
 use std::alloc::Global;
@@ -89,7 +89,7 @@ fn key_part(
 }
 
 // The columns of a table's key.
-fn key_columns<'a>(scope: &Scope<'a>, t: TableId) -> &'a [ColId]
+fn key_columns<'a>(scope: &Described<'a>, t: TableId) -> &'a [ColId]
     ensures { result.now ≡ (table (scope_schema scope.now) t).key }
 {
     match scope.catalog.table(t) {

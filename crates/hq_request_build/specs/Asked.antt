@@ -4,7 +4,7 @@ use Rattle.std.specs.Prelude.{ℕ, List, false, Ok}
 use Rattle.hq_base.specs.Due.{mapped, ◌>>=◌}
 use Rattle.hq_request_arguments.specs.Context.{Context}
 use Rattle.hq_request_build.specs.Heads.{Head, leaf, object_head, list_head, key_head, aggregate_head, introspect_head, head_by}
-use Rattle.hq_request_build.specs.Known.{Due, refused, Known, known_due, leads_to, type_name_due}
+use Rattle.hq_request_build.specs.KnownField.{Due, refused, KnownField, known_due, leads_to, type_name_due}
 use Rattle.hq_request_build.specs.Looks.{looks_due}
 use Rattle.hq_request_build.specs.Summaries.{summaries_due}
 use Rattle.hq_request_tree.specs.Fields.{FieldTrees, no_field, field, FieldTree, object, list, by_key, aggregate, introspect, PartTrees, no_part, part, PartTree, summary, nodes, part_typename}
@@ -32,7 +32,7 @@ with_below h b (aggregate_head o u a) = mapped (aggregate o a) (b.parts u)
 with_below h b (introspect_head name) = mapped (λ fs. introspect (look h.name name false fs)) b.looks
 
 -- a field of the root, or at a row of table t
-abbrev pub field_of : Context → (place t : ℕ) → FieldHead → (below : Known → Below) → Known → Due FieldTree
+abbrev pub field_of : Context → (place t : ℕ) → FieldHead → (below : KnownField → Below) → KnownField → Due FieldTree
 field_of c place t h below k = head_by c place t h k k.0.origin >>= with_below h (below k)
 
 -- a field of an aggregate over rows of a table, by what it stands for

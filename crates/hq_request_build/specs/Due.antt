@@ -3,7 +3,7 @@
 use Rattle.std.specs.Prelude.{ℕ, List, length, Bool, ◌&&◌, cond, Option, Some, None, Result, Ok, Err}
 use Rattle.hq_base.specs.Due.{◌>>=◌}
 use Rattle.hq_request_build.specs.Asked.{fields_due}
-use Rattle.hq_request_build.specs.Known.{Due}
+use Rattle.hq_request_build.specs.KnownField.{Due}
 use Rattle.hq_request_tree.specs.Touched.{touched}
 use Rattle.hq_request_tree.specs.Fields.{FieldTrees}
 use Rattle.hq_request_tree.specs.Request.{BoundTree, AskTree}

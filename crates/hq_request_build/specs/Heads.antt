@@ -3,7 +3,7 @@ use Rattle.std.specs.Prelude.{ℕ, List, Option, Some, None, Ok}
 use Rattle.hq_base.specs.Due.{mapped}
 use Rattle.hq_base.specs.declared.value.Val.{Val}
 use Rattle.hq_request_arguments.specs.Context.{Context}
-use Rattle.hq_request_build.specs.Known.{Due, refused, Known, type_name_due, rows_of, key_of, type_name_of}
+use Rattle.hq_request_build.specs.KnownField.{Due, refused, KnownField, type_name_due, rows_of, key_of, type_name_of}
 use Rattle.hq_request_tree.specs.Fields.{Origin, origin_of, FieldTree, column, typename, no_queries}
 use Rattle.hq_gql_tree.specs.Selections.{FieldHead}
 use Rattle.hq_gql_tree.specs.declared.rule.RuleId.TheVariants as rule
@@ -23,14 +23,14 @@ pub data Head : Type 0 where
   introspect_head : (type_name : Option (List ℕ)) → Head
 
 -- a list of rows of a table, and the aggregates over one, at a relationship or at none
-abbrev pub list_head_due : (table : ℕ) → (relationship : Option ℕ) → FieldHead → Known → Due Head
+abbrev pub list_head_due : (table : ℕ) → (relationship : Option ℕ) → FieldHead → KnownField → Due Head
 list_head_due u r h k = mapped (list_head (origin_of u r) u) (rows_of h k.1)
 
-abbrev pub aggregate_head_due : (table : ℕ) → (relationship : Option ℕ) → FieldHead → Known → Due Head
+abbrev pub aggregate_head_due : (table : ℕ) → (relationship : Option ℕ) → FieldHead → KnownField → Due Head
 aggregate_head_due u r h k = mapped (aggregate_head (origin_of u r) u) (rows_of h k.1)
 
 -- a field of the root, or at a row of table t, by what it stands for and its arguments
-abbrev pub head_by : Context → (place t : ℕ) → FieldHead → Known → FieldOrigin → Due Head
+abbrev pub head_by : Context → (place t : ℕ) → FieldHead → KnownField → FieldOrigin → Due Head
 head_by c place t h k (origin.Column col) = Ok (leaf (column col))
 head_by c place t h k origin.TypeName = mapped (λ name. leaf (typename name)) (type_name_due c.schema place h)
 head_by c place t h k origin.NoQueries = Ok (leaf no_queries)

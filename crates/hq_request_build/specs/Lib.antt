@@ -1,7 +1,7 @@
 pub mod Joined
 pub mod Bound
 pub mod Laws
-pub mod Known
+pub mod KnownField
 pub mod Looks
 pub mod Summaries
 pub mod Heads

@@ -2,7 +2,7 @@
 use Rattle.std.specs.Prelude.{ℕ, Bool, false, None, Ok}
 use Rattle.hq_base.specs.Due.{mapped, ◌>>=◌}
 use Rattle.hq_request_arguments.specs.Context.{Context}
-use Rattle.hq_request_build.specs.Known.{Due, refused, Known, known_due, leads_to, deprecated_of}
+use Rattle.hq_request_build.specs.KnownField.{Due, refused, KnownField, known_due, leads_to, deprecated_of}
 use Rattle.hq_request_tree.specs.Introspection.{IntrospectionTree, look, IntrospectionTrees, no_look, looks}
 use Rattle.hq_request_collect.specs.Tree.{CollectedTrees, no_collected, collected, is_empty}
 use Rattle.hq_gql_tree.specs.Selections.{FieldHead}
@@ -11,13 +11,13 @@ use Rattle.hq_schema.specs.declared.origin.FieldOrigin.{FieldOrigin}
 use Rattle.hq_schema.specs.declared.origin.FieldOrigin.TheVariants as origin
 
 -- whether a field of a type of introspection asks for deprecated things, by what it stands for
-abbrev pub flag_by : FieldHead → Known → FieldOrigin → Due Bool
+abbrev pub flag_by : FieldHead → KnownField → FieldOrigin → Due Bool
 flag_by h k origin.Introspection = Ok (deprecated_of k.1)
 flag_by h k origin.TypeName = Ok false
 flag_by h k o = refused rule.FieldSelections h
 
 -- such a field, where `below` tells what stands below it
-abbrev pub look_of : FieldHead → (below : Known → Due IntrospectionTrees) → Known → Due IntrospectionTree
+abbrev pub look_of : FieldHead → (below : KnownField → Due IntrospectionTrees) → KnownField → Due IntrospectionTree
 look_of h below k = flag_by h k k.0.origin >>= λ deprecated. mapped (look h.name None deprecated) (below k)
 
 -- fields in the type of a place

@@ -3,7 +3,7 @@ use Rattle.std.specs.Prelude.{ℕ}
 use Rattle.hq_base.specs.Due.{◌>>=◌}
 use Rattle.hq_request_arguments.specs.Context.{Context}
 use Rattle.hq_request_build.specs.Asked.{Below, field_of, part_by, fields_due, parts_due}
-use Rattle.hq_request_build.specs.Known.{Due, Known, known_due, leads_to}
+use Rattle.hq_request_build.specs.KnownField.{Due, KnownField, known_due, leads_to}
 use Rattle.hq_request_build.specs.Looks.{look_of, looks_due}
 use Rattle.hq_request_build.specs.Summaries.{taken_by, taken_due, summary_by, summaries_due}
 use Rattle.hq_request_tree.specs.Fields.{FieldTree, PartTree}
@@ -33,7 +33,7 @@ below_of c place t below = record {
 abbrev pub field_due : Context → (place t : ℕ) → FieldSeen → Due FieldTree
 field_due c place t f = known_due c place t f.head (is_empty f.below) >>= field_of c place t f.head (λ k. below_of c (leads_to k) t f.below)
 
-abbrev pub part_of : Context → (place u : ℕ) → FieldSeen → Known → Due PartTree
+abbrev pub part_of : Context → (place u : ℕ) → FieldSeen → KnownField → Due PartTree
 part_of c place u f k = part_by c place f.head (summaries_due c (leads_to k) u f.below) (fields_due c (leads_to k) u f.below) k.0.origin
 
 abbrev pub part_due : Context → (place u : ℕ) → FieldSeen → Due PartTree

@@ -2,7 +2,7 @@
 use Rattle.std.specs.Prelude.{ℕ, List, [], ◌∷◌, Ok}
 use Rattle.hq_base.specs.Due.{mapped, ◌>>=◌}
 use Rattle.hq_request_arguments.specs.Context.{Context}
-use Rattle.hq_request_build.specs.Known.{Due, refused, Known, known_due, leads_to, type_name_due, count_of}
+use Rattle.hq_request_build.specs.KnownField.{Due, refused, KnownField, known_due, leads_to, type_name_due, count_of}
 use Rattle.hq_request_tree.specs.declared.aggregate.AggCol.{AggCol}
 use Rattle.hq_request_tree.specs.declared.aggregate.AggCol.TheVariants as of
 use Rattle.hq_request_tree.specs.declared.aggregate.AggField.{AggField}
@@ -32,7 +32,7 @@ taken_due c place t (collected key h below others) =
     >>= λ f. mapped (with_taken key f) (taken_due c place t others)
 
 -- a field of aggregate, by what it stands for and its arguments, where `below` are the fields below it
-abbrev pub summary_by : Context → (place : ℕ) → FieldHead → Known → (below : Due (List KeyedAggCol)) → FieldOrigin → Due AggField
+abbrev pub summary_by : Context → (place : ℕ) → FieldHead → KnownField → (below : Due (List KeyedAggCol)) → FieldOrigin → Due AggField
 summary_by c place h k below origin.Count = mapped (λ x. take.Count x.0 x.1) (count_of h k.1)
 summary_by c place h k below (origin.Aggregated a) = mapped (take.Columns a) below
 summary_by c place h k below origin.TypeName = mapped take.Typename (type_name_due c.schema place h)

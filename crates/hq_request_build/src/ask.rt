@@ -4,7 +4,7 @@ ghost use Rattle.hq_base.specs.Due.{Gives, mapped};
 ghost use Rattle.hq_request_arguments.specs.Context.{context_view};
 ghost use Rattle.hq_request_build.specs.Asked.{fields_due, parts_due, with_below};
 ghost use Rattle.hq_request_build.specs.HeadSeen.{head_view};
-ghost use Rattle.hq_request_build.specs.Known.{leads_to, type_name_due};
+ghost use Rattle.hq_request_build.specs.KnownField.{leads_to, type_name_due};
 ghost use Rattle.hq_request_build.specs.Looks.{looks_due};
 ghost use Rattle.hq_request_build.specs.Parts.{below_of, field_due, part_due, part_of};
 ghost use Rattle.hq_request_build.specs.Seen.{known_view};
@@ -17,7 +17,7 @@ ghost use Rattle.hq_request_coerce.specs.declared.refusal.CoerceRefusal.TheVaria
 ghost use Rattle.hq_request_collect.specs.TreeSeen.{collected_view, trees_of, parts_seen};
 
 use crate::heads::{Head, head_of};
-use crate::known::{Known, known_field_of, refused, type_name_at};
+use crate::known::{KnownField, known_field_of, refused, type_name_at};
 use crate::looks::{ask_looks, look_of};
 use crate::summaries::ask_summaries;
 use hq_base::Txt;
@@ -308,7 +308,7 @@ fn part_by(
     context: &Context<'_>,
     place: TypeId,
     t: TableId,
-    known: &Known<'_>,
+    known: &KnownField<'_>,
     field: &CollectedField<'_>,
 ) -> Result<AggPart, CoerceRefusal>
     ensures { Gives part_view refusal.Memory (part_of (context_view context.now) place t (parts_seen field.now) (known_view known.now)) result }

@@ -4,7 +4,7 @@ ghost use Rattle.hq_base.specs.Due.{Gives, mapped};
 ghost use Rattle.hq_model.specs.Binding.{bound_masks, bound_permission};
 ghost use Rattle.hq_model.specs.Meta.{meta_view};
 ghost use Rattle.hq_model.specs.PermView.{mask_view, permission_view};
-ghost use Rattle.hq_model.specs.Scope.{scope_schema};
+ghost use Rattle.hq_model.specs.Described.{scope_schema};
 ghost use Rattle.hq_model.specs.declared.bind.BindRefusal.TheVariants as refusal;
 ghost use Rattle.hq_request_tree.specs.Fields.{fields_of, keyed_field_view};
 ghost use Rattle.hq_request_tree.specs.Request.{bound_view};
@@ -13,14 +13,14 @@ ghost use Rattle.hq_request_build.specs.Bound.{mask_due, of_table, bound_due, bo
 
 use crate::fields::touched_tables;
 use hq_base::List;
-use hq_model::{Bexp, BindRefusal, Mask, MaskList, PermView, Role, Scope, Session, TableId};
+use hq_model::{Bexp, BindRefusal, Described, Mask, MaskList, PermView, Role, Session, TableId};
 use hq_model_binding::bind;
 use hq_request_tree::{AskFields, Bound, BoundList};
 use std::alloc::Global;
 
 fn bound_mask(
     alloc: Global,
-    scope: &Scope<'_>,
+    scope: &Described<'_>,
     session: &Session,
     t: TableId,
     mask: &Mask,
@@ -36,7 +36,7 @@ fn bound_mask(
 
 fn bound_masks(
     alloc: Global,
-    scope: &Scope<'_>,
+    scope: &Described<'_>,
     session: &Session,
     t: TableId,
     masks: &[Mask],
@@ -54,7 +54,7 @@ fn bound_masks(
 // A permission on a table: its filter, and then its masks.
 fn bound_permission(
     alloc: Global,
-    scope: &Scope<'_>,
+    scope: &Described<'_>,
     session: &Session,
     t: TableId,
     view: &PermView,
@@ -74,7 +74,7 @@ fn bound_permission(
 fn bound_table(
     alloc: Global,
     role: &Role,
-    scope: &Scope<'_>,
+    scope: &Described<'_>,
     session: &Session,
     t: TableId,
 ) -> Result<Bound, BindRefusal>
@@ -93,7 +93,7 @@ fn bound_table(
 fn bound_each(
     alloc: Global,
     role: &Role,
-    scope: &Scope<'_>,
+    scope: &Described<'_>,
     session: &Session,
     tables: &[usize],
 ) -> Result<BoundList, BindRefusal>
@@ -112,7 +112,7 @@ fn bound_each(
 pub fn bound_tables(
     alloc: Global,
     role: &Role,
-    scope: &Scope<'_>,
+    scope: &Described<'_>,
     session: &Session,
     fields: &AskFields,
 ) -> Result<BoundList, BindRefusal>

@@ -3,13 +3,13 @@
 
 ghost use Rattle.std.specs.Prelude.{◌≡◌, ◌∷◌, [], map, OnOk};
 ghost use Rattle.hq_model.specs.Bexp.{bexp_view, bexps_of};
-ghost use Rattle.hq_model.specs.Scope.{scope_schema};
+ghost use Rattle.hq_model.specs.Described.{scope_schema};
 ghost use Rattle.hq_request_tree.specs.Arguments.{sort_view, arguments_view};
 ghost use Rattle.hq_request_tree.specs.Touched.{condition_tables, conditions_tables, path_tables, list_tables};
 ghost use Rattle.hq_request_build.specs.Joined.{noted, joined, sorts_tables};
 
 use hq_base::Memory;
-use hq_model::{Bexp, BexpList, RelId, Scope, TableId};
+use hq_model::{Bexp, BexpList, Described, RelId, TableId};
 use hq_request_tree::{Args, Sort};
 use indexmap::IndexSet;
 
@@ -28,7 +28,7 @@ pub fn note(touched: &mut Touched, t: TableId) -> Result<(), Memory>
 #[cycle(conditions)]
 fn touch_condition(
     touched: &mut Touched,
-    scope: &Scope<'_>,
+    scope: &Described<'_>,
     t: TableId,
     bexp: &Bexp,
 ) -> Result<(), Memory>
@@ -54,7 +54,7 @@ fn touch_condition(
 #[cycle(conditions)]
 fn touch_conditions(
     touched: &mut Touched,
-    scope: &Scope<'_>,
+    scope: &Described<'_>,
     t: TableId,
     bexps: &BexpList,
 ) -> Result<(), Memory>
@@ -69,7 +69,7 @@ fn touch_conditions(
 // Notes the remote tables of relationships, each of the table before.
 fn touch_path(
     touched: &mut Touched,
-    scope: &Scope<'_>,
+    scope: &Described<'_>,
     t: TableId,
     through: &[RelId],
 ) -> Result<(), Memory>
@@ -85,7 +85,7 @@ fn touch_path(
 
 fn touch_sorts(
     touched: &mut Touched,
-    scope: &Scope<'_>,
+    scope: &Described<'_>,
     t: TableId,
     sorts: &[Sort],
 ) -> Result<(), Memory>
@@ -100,7 +100,7 @@ fn touch_sorts(
 /// Notes the table of a list, and the tables that its arguments reach.
 pub fn touch_list(
     touched: &mut Touched,
-    scope: &Scope<'_>,
+    scope: &Described<'_>,
     t: TableId,
     args: &Args,
 ) -> Result<(), Memory>

@@ -2,7 +2,7 @@
 #![tactic(auto, using(crate::proofs::Joined::joined_append))]
 
 ghost use Rattle.std.specs.Prelude.{◌≡◌, map, OnOk, IfOk, length};
-ghost use Rattle.hq_model.specs.Scope.{scope_schema};
+ghost use Rattle.hq_model.specs.Described.{scope_schema};
 ghost use Rattle.hq_request_tree.specs.Fields.{origin_of, fields_of, parts_of, field_view, part_view, keyed_field_view, keyed_part_view};
 ghost use Rattle.hq_request_tree.specs.Resolve.{origin_table};
 ghost use Rattle.hq_request_tree.specs.Touched.{tables_of, field_tables, part_tables, one_part_tables, touched};
@@ -10,13 +10,13 @@ ghost use Rattle.hq_request_build.specs.Joined.{joined};
 
 use crate::conditions::{Touched, note, touch_list};
 use hq_base::Memory;
-use hq_model::{RelId, Scope, TableId};
+use hq_model::{Described, RelId, TableId};
 use hq_request_tree::{AggPart, AggParts, AskField, AskFields, KeyedAggPart, KeyedAskField};
 use indexmap::IndexSet;
 use std::alloc::Global;
 
 // The table of a list below a row of a table.
-fn origin_table(scope: &Scope<'_>, t: TableId, table: TableId, rel: Option<RelId>) -> TableId
+fn origin_table(scope: &Described<'_>, t: TableId, table: TableId, rel: Option<RelId>) -> TableId
     ensures { result ≡ origin_table (origin_of table rel) (scope_schema scope.now) t }
 {
     match rel {
@@ -29,7 +29,7 @@ fn origin_table(scope: &Scope<'_>, t: TableId, table: TableId, rel: Option<RelId
 #[cycle(touch)]
 fn touch_fields(
     touched: &mut Touched,
-    scope: &Scope<'_>,
+    scope: &Described<'_>,
     t: TableId,
     fields: &AskFields,
 ) -> Result<(), Memory>
@@ -44,7 +44,7 @@ fn touch_fields(
 #[cycle(touch)]
 fn touch_keyed(
     touched: &mut Touched,
-    scope: &Scope<'_>,
+    scope: &Described<'_>,
     t: TableId,
     field: &KeyedAskField,
 ) -> Result<(), Memory>
@@ -56,7 +56,7 @@ fn touch_keyed(
 #[cycle(touch)]
 fn touch_field(
     touched: &mut Touched,
-    scope: &Scope<'_>,
+    scope: &Described<'_>,
     t: TableId,
     field: &AskField,
 ) -> Result<(), Memory>
@@ -103,7 +103,7 @@ fn touch_field(
 #[cycle(touch)]
 fn touch_parts(
     touched: &mut Touched,
-    scope: &Scope<'_>,
+    scope: &Described<'_>,
     t: TableId,
     parts: &AggParts,
 ) -> Result<(), Memory>
@@ -118,7 +118,7 @@ fn touch_parts(
 #[cycle(touch)]
 fn touch_keyed_part(
     touched: &mut Touched,
-    scope: &Scope<'_>,
+    scope: &Described<'_>,
     t: TableId,
     part: &KeyedAggPart,
 ) -> Result<(), Memory>
@@ -130,7 +130,7 @@ fn touch_keyed_part(
 #[cycle(touch)]
 fn touch_part(
     touched: &mut Touched,
-    scope: &Scope<'_>,
+    scope: &Described<'_>,
     t: TableId,
     part: &AggPart,
 ) -> Result<(), Memory>
@@ -145,7 +145,7 @@ fn touch_part(
 /// The tables that root fields touch, in the order of the first touch.
 pub fn touched_tables(
     alloc: Global,
-    scope: &Scope<'_>,
+    scope: &Described<'_>,
     fields: &AskFields,
 ) -> Result<Touched, Memory>
     ensures { IfOk result (λ ts. ts.keys ≡ touched (fields_of (map keyed_field_view fields.now.items)) (scope_schema scope.now) (length scope.now.catalog.now.tables)) }

@@ -9,7 +9,7 @@ ghost use Rattle.hq_request_tree.specs.Fields.{field_view};
 ghost use Rattle.hq_request_collect.specs.TreeSeen.{parts_seen};
 ghost use Rattle.hq_request_coerce.specs.declared.refusal.CoerceRefusal.TheVariants as refusal;
 
-use crate::known::{Known, key_of, refused, rows_of, type_name_at, type_name_of};
+use crate::known::{KnownField, key_of, refused, rows_of, type_name_at, type_name_of};
 use hq_base::Txt;
 use hq_gql_tree::RuleId;
 use hq_model::{RelId, TableId};
@@ -53,7 +53,7 @@ pub enum Head {
 fn list_head(
     table: TableId,
     rel: Option<RelId>,
-    known: Known<'_>,
+    known: KnownField<'_>,
     field: &CollectedField<'_>,
 ) -> Result<Head, CoerceRefusal>
     ensures { Gives head_view refusal.Memory (list_head_due table rel (parts_seen field.now).head (known_view known.entry)) result }
@@ -66,7 +66,7 @@ fn list_head(
 fn aggregate_head(
     table: TableId,
     rel: Option<RelId>,
-    known: Known<'_>,
+    known: KnownField<'_>,
     field: &CollectedField<'_>,
 ) -> Result<Head, CoerceRefusal>
     ensures { Gives head_view refusal.Memory (aggregate_head_due table rel (parts_seen field.now).head (known_view known.entry)) result }
@@ -87,7 +87,7 @@ pub fn head_of(
     context: &Context<'_>,
     place: TypeId,
     t: TableId,
-    known: Known<'_>,
+    known: KnownField<'_>,
     field: &CollectedField<'_>,
 ) -> Result<Head, CoerceRefusal>
     ensures { let k = known_view known.entry in Gives head_view refusal.Memory (head_by (context_view context.now) place t (parts_seen field.now).head k k.0.origin) result }

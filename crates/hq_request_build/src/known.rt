@@ -5,7 +5,7 @@ ghost use Rattle.hq_base.specs.Due.{Gives};
 ghost use Rattle.hq_request_arguments.specs.Context.{context_view};
 ghost use Rattle.hq_request_arguments.specs.Due.{arguments_due};
 ghost use Rattle.hq_request_arguments.specs.FieldArguments.{field_args_view};
-ghost use Rattle.hq_request_build.specs.Known.{is_complete, known_of, known_due, type_name_due, rows_of, key_of, count_of, type_name_of, deprecated_of, fault_at};
+ghost use Rattle.hq_request_build.specs.KnownField.{is_complete, known_of, known_due, type_name_due, rows_of, key_of, count_of, type_name_of, deprecated_of, fault_at};
 ghost use Rattle.hq_request_build.specs.Seen.{known_view};
 ghost use Rattle.hq_request_tree.specs.Arguments.{arguments_view};
 ghost use Rattle.hq_request_coerce.specs.declared.refusal.CoerceRefusal.TheVariants as refusal;
@@ -27,7 +27,7 @@ use std::alloc::Global;
 
 /// The definition of a field in a schema, and its coerced arguments, which lie in a box, so that they are let go in one step.
 #[derive(Drop)]
-pub struct Known<'a> {
+pub struct KnownField<'a> {
     pub def: &'a FieldDef,
     pub args: Box<FieldArgs>,
 }
@@ -78,14 +78,14 @@ fn known_of<'a>(
     t: TableId,
     def: &'a FieldDef,
     field: &CollectedField<'_>,
-) -> Result<Known<'a>, CoerceRefusal>
+) -> Result<KnownField<'a>, CoerceRefusal>
     ensures { let f = parts_seen field.now in Gives known_view refusal.Memory (known_of (context_view context.now) t f.head (is_empty f.below) (Some (field_view def.now))) result }
 {
     if !is_complete(context.schema, def, field.is_leaf()) {
         return Err(refused(RuleId::LeafFieldSelections, field));
     }
     let args = arguments_of(alloc, context, t, def, field)?;
-    Ok(Known {
+    Ok(KnownField {
         def,
         args: Box::new(alloc, args)?,
     })
@@ -109,7 +109,7 @@ pub fn known_field_of<'a>(
     place: TypeId,
     t: TableId,
     field: &CollectedField<'_>,
-) -> Result<Known<'a>, CoerceRefusal>
+) -> Result<KnownField<'a>, CoerceRefusal>
     ensures { let f = parts_seen field.now in Gives known_view refusal.Memory (known_due (context_view context.now) place t f.head (is_empty f.below)) result }
 {
     match definition_of(context.schema, place, field) {

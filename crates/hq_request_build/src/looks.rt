@@ -2,7 +2,7 @@
 ghost use Rattle.std.specs.Prelude.{◌≡◌, map, IfOk, Option, Ok};
 ghost use Rattle.hq_base.specs.Due.{Gives};
 ghost use Rattle.hq_request_arguments.specs.Context.{context_view};
-ghost use Rattle.hq_request_build.specs.Known.{leads_to, deprecated_of};
+ghost use Rattle.hq_request_build.specs.KnownField.{leads_to, deprecated_of};
 ghost use Rattle.hq_request_build.specs.Looks.{flag_by, looks_due};
 ghost use Rattle.hq_request_build.specs.Parts.{look_due};
 ghost use Rattle.hq_request_build.specs.Seen.{known_view};
@@ -11,7 +11,7 @@ ghost use Rattle.hq_request_coerce.specs.declared.refusal.CoerceRefusal.TheVaria
 ghost use Rattle.hq_request_collect.specs.TreeSeen.{collected_view, trees_of, parts_seen};
 ghost use Rattle.hq_gql_tree.specs.Selections.{field_view as field_seen};
 
-use crate::known::{Known, deprecated_of, known_field_of, refused};
+use crate::known::{KnownField, deprecated_of, known_field_of, refused};
 use hq_base::{Memory, Txt};
 use hq_gql_tree::{Field, RuleId};
 use hq_model::TableId;
@@ -67,7 +67,7 @@ fn keyed(key: Txt, field: IntroField) -> KeyedIntroField
 }
 
 // Whether a field of a type of introspection asks for deprecated things.
-fn flag_of(known: Known<'_>, field: &CollectedField<'_>) -> Result<bool, CoerceRefusal>
+fn flag_of(known: KnownField<'_>, field: &CollectedField<'_>) -> Result<bool, CoerceRefusal>
     ensures { let k = known_view known.entry in Gives (λ b. b) refusal.Memory (flag_by (parts_seen field.now).head k k.0.origin) result }
 {
     match known.def.origin {

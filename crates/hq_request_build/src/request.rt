@@ -19,13 +19,13 @@ ghost use Rattle.hq_gql_tree.specs.Selections.{selections_in};
 ghost use Rattle.hq_gql_tree.specs.View.{document_view};
 ghost use Rattle.hq_schema.specs.Schema.{schema_view};
 ghost use Rattle.hq_model.specs.Meta.{meta_view};
-ghost use Rattle.hq_model.specs.Scope.{scope_schema};
+ghost use Rattle.hq_model.specs.Described.{scope_schema};
 
 use crate::ask::ask_fields;
 use crate::bound_tables;
 use hq_base::Memory;
 use hq_gql_tree::{Document, Fault, Operation, RuleId};
-use hq_model::{BindRefusal, Catalog, Meta, Role, Scope, Session, TableId};
+use hq_model::{BindRefusal, Catalog, Described, Meta, Role, Session, TableId};
 use hq_request_arguments::Context;
 use hq_request_coerce::{CoerceRefusal, OpRef, VarValues, fault_of, operation_at};
 use hq_request_collect::{
@@ -133,7 +133,7 @@ fn binding_fault(refusal: BindRefusal) -> AskRefusal
 fn bound_in(
     alloc: Global,
     role: &Role,
-    scope: &Scope<'_>,
+    scope: &Described<'_>,
     session: &Session,
     fields: &AskFields,
 ) -> Result<BoundList, AskRefusal>
@@ -154,7 +154,7 @@ fn fields_of<'a>(
     alloc: Global,
     vars: &'a VarValues,
     schema: &'a Schema,
-    scope: Scope<'a>,
+    scope: Described<'a>,
     fields: &CollectedList<'_>,
 ) -> Result<AskFields, AskRefusal>
     ensures { let s = scope_schema scope.entry in Gives (λ v. fields_of (map keyed_field_view v.items)) refusal.Memory
@@ -188,7 +188,7 @@ pub fn build<'a>(
     let operation = operation_of(document, op)?;
     let fragments = Fragments::of(alloc, document)?;
     let collected = collected(alloc, &fragments, vars, operation)?;
-    let scope = Scope { catalog, meta };
+    let scope = Described { catalog, meta };
     let fields = fields_of(alloc, vars, schema, scope, &collected)?;
     let role = Role::of(alloc, session)?;
     let bound = bound_in(alloc, &role, &scope, session, &fields)?;

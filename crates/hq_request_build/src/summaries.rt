@@ -3,7 +3,7 @@ ghost use Rattle.std.specs.Prelude.{◌≡◌, map};
 ghost use Rattle.hq_base.specs.Due.{Gives, mapped};
 ghost use Rattle.hq_request_arguments.specs.Context.{context_view};
 ghost use Rattle.hq_request_arguments.specs.FieldArguments.{field_args_view};
-ghost use Rattle.hq_request_build.specs.Known.{leads_to, count_of, type_name_due};
+ghost use Rattle.hq_request_build.specs.KnownField.{leads_to, count_of, type_name_due};
 ghost use Rattle.hq_request_build.specs.Parts.{one_taken_due, one_summary_due};
 ghost use Rattle.hq_request_build.specs.Seen.{known_view};
 ghost use Rattle.hq_request_build.specs.Summaries.{taken_by, taken_due, summary_by, summaries_due};
@@ -11,7 +11,7 @@ ghost use Rattle.hq_request_tree.specs.declared.aggregate.AggField.TheVariants a
 ghost use Rattle.hq_request_coerce.specs.declared.refusal.CoerceRefusal.TheVariants as refusal;
 ghost use Rattle.hq_request_collect.specs.TreeSeen.{collected_view, trees_of, parts_seen};
 
-use crate::known::{Known, count_of, known_field_of, refused, type_name_at};
+use crate::known::{KnownField, count_of, known_field_of, refused, type_name_at};
 use hq_base::{Aggregate, List};
 use hq_gql_tree::RuleId;
 use hq_model::TableId;
@@ -129,7 +129,7 @@ fn summary_by(
     context: &Context<'_>,
     place: TypeId,
     t: TableId,
-    known: &Known<'_>,
+    known: &KnownField<'_>,
     field: &CollectedField<'_>,
 ) -> Result<AggField, CoerceRefusal>
     ensures { let c = context_view context.now in let k = known_view known.now in let f = parts_seen field.now in Gives (λ a. a) refusal.Memory

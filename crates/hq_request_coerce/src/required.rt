@@ -13,13 +13,13 @@ ghost use Rattle.hq_request_coerce.specs.Required.{required_in, required_of, req
 
 use crate::values::is_non_null;
 use hq_base::{Memory, Txt};
-use hq_gql_nodes::{Names, Node, Part, Place, note, reached};
+use hq_gql_nodes::{Names, Node, Part, ValuePlace, note, reached};
 use hq_gql_tree::{Placed, Value};
 use std::alloc::Global;
 use std::collections::HashMap;
 
 // The variable that a value is, where it stands at a place of a type without null.
-fn required_in<'a>(placed: &'a Placed, place: Option<Place<'a>>) -> Option<&'a Txt>
+fn required_in<'a>(placed: &'a Placed, place: Option<ValuePlace<'a>>) -> Option<&'a Txt>
     ensures { option_copied result ≡ required_in (option_map place_view place.entry) (placed_view placed.now).value }
 {
     match (place, &placed.value) {

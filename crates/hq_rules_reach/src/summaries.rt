@@ -9,7 +9,7 @@ ghost use Rattle.hq_rules_reach.specs.Summaries.{is_same_type, IsLike, HasLike, 
 
 use crate::uses::Use;
 use hq_base::Memory;
-use hq_gql_nodes::Place;
+use hq_gql_nodes::ValuePlace;
 use hq_schema::TypeRef;
 use std::alloc::Global;
 
@@ -33,13 +33,13 @@ fn is_same_type(left: &TypeRef, right: &TypeRef) -> bool
 }
 
 #[tactic(auto, using(crate::proofs::Summing::same_type))]
-fn is_same_place(left: Place<'_>, right: Place<'_>) -> bool
+fn is_same_place(left: ValuePlace<'_>, right: ValuePlace<'_>) -> bool
     ensures { result ≡ true → place_view left.entry ≡ place_view right.entry }
 {
     left.default_false == right.default_false && is_same_type(left.ty, right.ty)
 }
 
-fn are_alike(left: Option<Place<'_>>, right: Option<Place<'_>>) -> bool
+fn are_alike(left: Option<ValuePlace<'_>>, right: Option<ValuePlace<'_>>) -> bool
     ensures { result ≡ true → option_map place_view left.entry ≡ option_map place_view right.entry }
 {
     match (left, right) {

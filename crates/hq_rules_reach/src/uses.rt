@@ -13,7 +13,7 @@ ghost use Rattle.hq_rules_reach.specs.Fit.{AreFit};
 use crate::numbers::Numbers;
 use crate::summaries::{each_ascends, summary};
 use hq_base::Memory;
-use hq_gql_nodes::{Node, Part, Place};
+use hq_gql_nodes::{Node, Part, ValuePlace};
 use hq_gql_tree::{Placed, Value};
 use std::alloc::Global;
 use std::collections::HashMap;
@@ -24,7 +24,7 @@ pub struct Use<'a> {
     pub name: &'a str,
     pub number: usize,
     pub at: u64,
-    pub place: Option<Place<'a>>,
+    pub place: Option<ValuePlace<'a>>,
 }
 
 // Adds a use of the variable of a name.
@@ -33,7 +33,7 @@ fn push_use<'a>(
     numbers: &mut Numbers<'a>,
     name: &'a str,
     at: u64,
-    place: Option<Place<'a>>,
+    place: Option<ValuePlace<'a>>,
 ) -> Result<(), Memory>
     requires numbers { AreNumbers (get_name numbers.old.names) numbers.old.count }
     requires numbered { All (IsNumbered (get_name numbers.old.names)) uses.old.items }
@@ -57,7 +57,7 @@ fn push_value<'a>(
     uses: &mut Vec<Use<'a>>,
     numbers: &mut Numbers<'a>,
     placed: &'a Placed,
-    place: Option<Place<'a>>,
+    place: Option<ValuePlace<'a>>,
 ) -> Result<(), Memory>
     requires numbers { AreNumbers (get_name numbers.old.names) numbers.old.count }
     requires numbered { All (IsNumbered (get_name numbers.old.names)) uses.old.items }

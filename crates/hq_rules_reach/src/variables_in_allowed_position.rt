@@ -10,7 +10,7 @@ ghost use Rattle.hq_rules_reach.specs.Variables.{nullable, are_compatible, has_d
 
 use crate::uses::Use;
 use crate::variable_places::variable_at;
-use hq_gql_nodes::{Place, at_if, earlier, is_non_null, is_null, type_at};
+use hq_gql_nodes::{ValuePlace, at_if, earlier, is_non_null, is_null, type_at};
 use hq_gql_tree::{Placed, VarDef};
 use hq_schema::{Schema, TypeRef};
 
@@ -54,7 +54,7 @@ fn has_default(default: &Option<Placed>) -> bool
     }
 }
 
-fn is_allowed(ty: &TypeRef, default: bool, place: Place<'_>) -> bool
+fn is_allowed(ty: &TypeRef, default: bool, place: ValuePlace<'_>) -> bool
     ensures { result ≡ is_allowed (type_ref_view ty.now) default (place_view place.entry) }
 {
     if is_non_null(place.ty) && !is_non_null(ty) {
@@ -64,7 +64,7 @@ fn is_allowed(ty: &TypeRef, default: bool, place: Place<'_>) -> bool
     }
 }
 
-fn is_wrong_type(ty: Option<&TypeRef>, default: bool, place: Option<Place<'_>>) -> bool
+fn is_wrong_type(ty: Option<&TypeRef>, default: bool, place: Option<ValuePlace<'_>>) -> bool
     ensures { result ≡ is_wrong_type (option_map (λ r. type_ref_view r.now) ty.entry) default (option_map place_view place.entry) }
 {
     match (ty, place) {

@@ -3,12 +3,12 @@ use Rattle.std.proofs.Common.{◌≡◌, ℕ, zero, suc, ◌<◌, List, [], ◌�
 use Rattle.hq_sql_tree.specs.Meaning.{NamedRow, World}
 use Rattle.hq_sql_tree.specs.Tree as tree
 use Rattle.hq_sql_tree.specs.Tree.{JoinTrees, no_join, FilterTree, FromTree, PredTree}
-use Rattle.hq_sql_access.specs.Known.{Knows, IsKnown}
+use Rattle.hq_sql_access.specs.KnownRows.{Knows, IsKnown}
 use Rattle.hq_sql_access.specs.Sources.{alias_in, rows_given}
-use Rattle.hq_sql_access.specs.declared.pinned.Known.{Known}
+use Rattle.hq_sql_access.specs.declared.pinned.KnownRows.{KnownRows}
 
 -- what is known of a condition is known of the same one without joins
-pub known_same : (w : World) (from from' : FromTree) (js : JoinTrees) (p p' : PredTree) (f : FilterTree) (k : Known) → from ≡ from' → p ≡ p' → js ≡ no_join → f ≡ tree.filter p'
+pub known_same : (w : World) (from from' : FromTree) (js : JoinTrees) (p p' : PredTree) (f : FilterTree) (k : KnownRows) → from ≡ from' → p ≡ p' → js ≡ no_join → f ≡ tree.filter p'
     → ((made : List NamedRow) → Knows w (rows_given from w made) (alias_in from) (tree.filter p) k) → (made : List NamedRow) → IsKnown w (rows_given from' w made) (alias_in from') js f k
 known_same w from from' js p p' f k e h j c known made =
     record {

@@ -10,4 +10,4 @@ pub mod Resolved
 pub mod Equations
 pub mod KeyCells
 pub mod KeySets
-pub mod Known
+pub mod KnownRows

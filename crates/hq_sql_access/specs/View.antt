@@ -19,7 +19,7 @@ use Rattle.hq_sql_access.specs.declared.scope.Source.TheVariants as source
 use Rattle.hq_sql_access.specs.declared.scope.Group.{Group}
 use Rattle.hq_sql_access.specs.declared.scope.Group.TheVariants.{Alone, Of}
 use Rattle.hq_sql_access.specs.declared.scope.Scope.{Scope, Nothing, Bound', Later', Joined'}
-use Rattle.hq_sql_access.specs.declared.place.Place.{Place}
+use Rattle.hq_sql_access.specs.declared.place.JoinedRow.{JoinedRow}
 
 -- a cell with its name
 abbrev pub named_view : Named → List ℕ × CellTree
@@ -80,11 +80,11 @@ abbrev pub joined_view : Vec (Option Made) → List (Option NamedRow)
 joined_view joined = map (option_map made_view) joined.items
 
 -- a place of FROM with the rows of its joins
-abbrev pub place_of : (position : ℕ) → Vec (Option Made) → Place
+abbrev pub place_of : (position : ℕ) → Vec (Option Made) → JoinedRow
 place_of position joined = record { position = position; joined = joined }
 
 -- what is in scope at a place
-abbrev pub names_at : Source → (alias : List ℕ) → JoinTrees → World → Names → Place → Names
+abbrev pub names_at : Source → (alias : List ℕ) → JoinTrees → World → Names → JoinedRow → Names
 names_at from alias joins world names place =
     beside joins world (with_alias names alias (row_in from place.position)) (joined_view place.joined)
 

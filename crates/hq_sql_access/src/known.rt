@@ -5,11 +5,11 @@ ghost use Rattle.hq_sql_conjuncts.specs.Weight.{filter_weight};
 ghost use Rattle.hq_sql_tree.specs.Meaning.{NamedRow};
 ghost use Rattle.hq_sql_tree.specs.Tree.{joins_of};
 ghost use Rattle.hq_sql_tree.specs.View.{filter_view, from_view, join_view};
-ghost use Rattle.hq_sql_access.specs.Known.{IsKnown};
+ghost use Rattle.hq_sql_access.specs.KnownRows.{IsKnown};
 ghost use Rattle.hq_sql_access.specs.Sources.{alias_in, rows_given};
 ghost use Rattle.hq_sql_access.specs.View.{world_of};
 
-use crate::pinned::{Known, Pinned};
+use crate::pinned::{KnownRows, Pinned};
 use hq_sql_conjuncts::{same_from, same_pred};
 use hq_sql_tree::{From, Join, Pred};
 
@@ -19,7 +19,7 @@ pub fn known_of<'m, 'd>(
     from: &From,
     joins: &[Join],
     filter: &Option<Pred>,
-) -> Option<&'m Known<'d>>
+) -> Option<&'m KnownRows<'d>>
     ensures known { IfSome result
         (λ k. (made : Items NamedRow)
         → IsKnown (world_of world.now) (rows_given (from_view from.now) (world_of world.now) made) (alias_in (from_view from.now))

@@ -2,10 +2,10 @@
 ghost use Rattle.std.specs.Prelude.{◌≡◌, ◌<◌, ℕ, length, slice_index_or};
 ghost use Rattle.hq_sql_tree.specs.View.{pred_view};
 ghost use Rattle.hq_sql_access.specs.KeySets.{IsKeySet};
-ghost use Rattle.hq_sql_access.specs.Known.{IsRight};
+ghost use Rattle.hq_sql_access.specs.KnownRows.{IsRight};
 ghost use Rattle.hq_sql_access.specs.Pins.{world_in};
 ghost use Rattle.hq_sql_access.specs.declared.pinned.KeySet.{KeySet};
-ghost use Rattle.hq_sql_access.specs.declared.pinned.Known.{Known};
+ghost use Rattle.hq_sql_access.specs.declared.pinned.KnownRows.{KnownRows};
 
 use crate::stored::Stored;
 use crate::work::Work;
@@ -18,7 +18,7 @@ use std::alloc::Global;
 /// Of a condition over the rows of a table: at which of them the conjuncts that mention no other alias are all true, and the other
 /// conjuncts.
 #[derive(Drop)]
-pub struct Known<'d> {
+pub struct KnownRows<'d> {
     pub from: &'d From,
     pub filter: &'d Pred,
     pub truths: Vec<bool>,
@@ -41,9 +41,9 @@ pub struct Pinned<'d> {
     pub tables: &'d [Stored<'d>],
     pub work: &'d Work,
     pub matchers: &'d [Matcher],
-    pub known: Vec<Known<'d>>,
+    pub known: Vec<KnownRows<'d>>,
     pub sets: Vec<KeySet<'d>>,
-    ghost right: { (i : ℕ) (d : Known) → i < length known.items → IsRight (world_in tables.now) (slice_index_or known.items i d) },
+    ghost right: { (i : ℕ) (d : KnownRows) → i < length known.items → IsRight (world_in tables.now) (slice_index_or known.items i d) },
     ghost keyed: { (i : ℕ) (d : KeySet) → i < length sets.items → IsKeySet (world_in tables.now) (pred_view (slice_index_or sets.items i d).pred.now) (slice_index_or sets.items i d) },
 }
 
@@ -67,7 +67,7 @@ impl<'d> Pinned<'d> {
     }
 
     /// Knows one thing more.
-    pub fn add(&mut self, known: Known<'d>) -> Result<(), Memory>
+    pub fn add(&mut self, known: KnownRows<'d>) -> Result<(), Memory>
         requires { IsRight (world_in self.old.tables.now) known }
         ensures { self.new.tables ≡ self.old.tables }
     {

@@ -14,27 +14,30 @@ pub type Joined<'d> = Vec<Option<Made<'d>>>;
 
 /// A row of FROM and its joins: where the row stands in FROM, and the rows of the joins.
 #[derive(Drop)]
-pub struct Place<'d> {
+pub struct JoinedRow<'d> {
     pub position: usize,
     pub joined: Joined<'d>,
 }
 
 /// Adds a place for each row of the joins.
 pub fn add_places<'d>(
-    places: &mut Vec<Place<'d>>,
+    places: &mut Vec<JoinedRow<'d>>,
     position: usize,
     lists: Vec<Joined<'d>>,
 ) -> Result<(), Memory>
     ensures { OnOk result (places.new.items ≡ places.old.items ++ map (place_of position) lists.entry.items) }
 {
     for joined in lists {
-        places.push(Place { position, joined })?;
+        places.push(JoinedRow { position, joined })?;
     }
     Ok(())
 }
 
 /// The places, and more behind them.
-pub fn with_more<'d>(places: Vec<Place<'d>>, more: Vec<Place<'d>>) -> Result<Vec<Place<'d>>, Memory>
+pub fn with_more<'d>(
+    places: Vec<JoinedRow<'d>>,
+    more: Vec<JoinedRow<'d>>,
+) -> Result<Vec<JoinedRow<'d>>, Memory>
     ensures { IfOk result (λ all. all.items ≡ places.entry.items ++ more.entry.items) }
 {
     let mut all = places;

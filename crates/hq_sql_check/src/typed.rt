@@ -26,7 +26,8 @@ pub(crate) fn select_names<'d>(
 ) -> Result<Option<Vec<Name<'d>>>, Memory>
     ensures { IfOk result (λ found. MatchOption found
         (is_typed (select_view select.now) tables.now (scope_view scope.now) ≡ false)
-        (λ names. (is_typed (select_view select.now) tables.now (scope_view scope.now) ≡ true) × (map name_view names.items ≡ select_names (select_view select.now) tables.now (scope_view scope.now)))) }
+        (λ names. (is_typed (select_view select.now) tables.now (scope_view scope.now) ≡ true)
+        × (map name_view names.items ≡ select_names (select_view select.now) tables.now (scope_view scope.now)))) }
 {
     match select {
         Select::Rows {
@@ -106,7 +107,8 @@ fn from_alias<'d>(
 ) -> Result<Option<Alias<'d>>, Memory>
     ensures { IfOk result (λ found. MatchOption found
         (is_typed_from (from_view from.now) tables.now (scope_view scope.now) ≡ false)
-        (λ first. (is_typed_from (from_view from.now) tables.now (scope_view scope.now) ≡ true) × (alias_view first ∷ scope_view scope.now ≡ from_scope (from_view from.now) tables.now (scope_view scope.now)))) }
+        (λ first. (is_typed_from (from_view from.now) tables.now (scope_view scope.now) ≡ true)
+        × (alias_view first ∷ scope_view scope.now ≡ from_scope (from_view from.now) tables.now (scope_view scope.now)))) }
 {
     match from {
         From::Table {
@@ -162,7 +164,8 @@ fn push_joins<'d>(
 ) -> Result<bool, Memory>
     ensures well { IfOk result (λ well. well ≡ are_typed_joins (joins_of (map join_view joins.now.items)) tables.now (stacked (map alias_view aliases.old.items) (scope_view scope.now))) }
     ensures aliases { IfOk result (λ well. well ≡ true →
-        stacked (map alias_view aliases.new.items) (scope_view scope.now) ≡ joined_scope (joins_of (map join_view joins.now.items)) tables.now (stacked (map alias_view aliases.old.items) (scope_view scope.now))) }
+        stacked (map alias_view aliases.new.items) (scope_view scope.now)
+        ≡ joined_scope (joins_of (map join_view joins.now.items)) tables.now (stacked (map alias_view aliases.old.items) (scope_view scope.now))) }
 {
     for join in joins {
         let beside = Scope::Level {

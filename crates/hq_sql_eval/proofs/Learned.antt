@@ -12,10 +12,10 @@ use Rattle.hq_sql_tree.specs.View.{pred_view}
 use Rattle.hq_sql_conjuncts.specs.Conjuncts.{all_kept, lent_views}
 use Rattle.hq_sql_conjuncts.specs.Split.{IsSplit, kept_one}
 use Rattle.hq_sql_conjuncts.proofs.Conjuncts.{all_alone, all_append}
-use Rattle.hq_sql_access.specs.Known.{Knows}
+use Rattle.hq_sql_access.specs.KnownRows.{Knows}
 use Rattle.hq_sql_eval.specs.Narrowed.{narrowed, keeps_one}
 use Rattle.hq_sql_access.specs.Sources.{alias_in, made_rows, rows_given}
-use Rattle.hq_sql_access.specs.declared.pinned.Known.{Known}
+use Rattle.hq_sql_access.specs.declared.pinned.KnownRows.{KnownRows}
 use Rattle.hq_sql_select.proofs.Evaluated.{exists_is}
 
 -- an element of mapped ones is mapped
@@ -30,7 +30,7 @@ length_map f [] = refl
 length_map f (x ∷ xs) = ap suc (length_map f xs)
 
 -- what was learned is right over these rows
-pub learned_is : (p : PredTree) (w : World) (rows : List NamedRow) (alias : List ℕ) (c : List (Bor Pred)) (m : ℕ) (k : Known) → IsSplit (alias ∷ []) (kept_one p) m [] [] c k.rest.items
+pub learned_is : (p : PredTree) (w : World) (rows : List NamedRow) (alias : List ℕ) (c : List (Bor Pred)) (m : ℕ) (k : KnownRows) → IsSplit (alias ∷ []) (kept_one p) m [] [] c k.rest.items
     → k.truths.items ≡ map (λ row. all_kept (lent_views c) w (with_alias nothing alias row)) rows → Knows w rows alias (tree.filter p) k
 learned_is p w rows alias c m k x e =
     let f : NamedRow → Bool = λ row. all_kept (lent_views c) w (with_alias nothing alias row) in
@@ -47,7 +47,7 @@ learned_is p w rows alias c m k x e =
 
 -- what is known over the rows of a table is known of it in each scope
 pub of_table : (w : World) (from : FromTree) (schema name alias : List ℕ) (given rows : List NamedRow) (a : List ℕ) (f : FilterTree)
-    (k : Known)
+    (k : KnownRows)
     → from ≡ tree.table schema name alias → rows ≡ rows_given from w given → a ≡ alias_in from → Knows w rows a f k
     → (made : List NamedRow) → Knows w (rows_given from w made) (alias_in from) f k
 of_table w from schema name alias given rows a f k e r b h made =

@@ -9,7 +9,7 @@ ghost use Rattle.hq_sql_tree.specs.Meaning.{has_rows, nothing, rows_of, with_ali
 ghost use Rattle.hq_sql_tree.specs.Tree.{exists, joins_of};
 ghost use Rattle.hq_sql_tree.specs.View.{filter_view, from_view, join_view, pred_view, select_view};
 ghost use Rattle.hq_sql_access.specs.KeySets.{IsKeySet, keeps_key};
-ghost use Rattle.hq_sql_access.specs.Known.{IsKnown, IsRight};
+ghost use Rattle.hq_sql_access.specs.KnownRows.{IsKnown, IsRight};
 ghost use Rattle.hq_sql_access.specs.Lent.{rows_lent};
 ghost use Rattle.hq_sql_access.specs.declared.scope.Source.TheVariants as source;
 ghost use Rattle.hq_sql_eval.specs.Filtered.{Filters};
@@ -22,7 +22,7 @@ use hq_base::{Memory, Txt};
 use hq_load_index::Index;
 use hq_load_tables::Rows;
 use hq_sql_access::known::known_of;
-use hq_sql_access::pinned::{KeySet, Known, Pinned};
+use hq_sql_access::pinned::{KeySet, KnownRows, Pinned};
 use hq_sql_access::scope::{Scope, Source, alias_of, count, row_at, source_of};
 use hq_sql_access::stored::Stored;
 use hq_sql_conjuncts::{Names, split};
@@ -56,7 +56,7 @@ fn finds<'s, 'd>(
     alias: &'d Txt,
     joins: &'d [Join],
     filter: &'d Option<Pred>,
-    known: Option<&Known<'d>>,
+    known: Option<&KnownRows<'d>>,
     world: &Pinned<'d>,
     scope: &'s Scope<'s, 'd>,
 ) -> Result<bool, Memory>
@@ -371,7 +371,7 @@ pub fn learned<'d>(
     from: &'d From,
     filter: &'d Pred,
     world: &Pinned<'d>,
-) -> Result<Option<Known<'d>>, Memory>
+) -> Result<Option<KnownRows<'d>>, Memory>
     ensures { IfOk result (λ found. IfSome found (λ k. IsRight (world_of world.now) k)) }
 {
     let From::Table { alias, .. } = from else {
@@ -387,7 +387,7 @@ pub fn learned<'d>(
     split(filter, &names, &mut closed, &mut rest)?;
     let source = source_of(world, from, &[]);
     let truths = truths_over(alloc, source, alias, &closed, world)?;
-    Ok(Some(Known {
+    Ok(Some(KnownRows {
         from,
         filter,
         truths,

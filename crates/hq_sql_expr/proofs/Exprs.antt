@@ -169,7 +169,8 @@ module _ (d : ℕ) (expr : Reader ExprTree) (expr_takes : Sound expr (OneExpr d)
   pair_takes =
       sound_next text_at (λ n bytes. after word.Comma bytes >>= λ rest. expr rest >>= λ e. Some (record { name = n; value = e.0 }, e.1)) literal_text IsText (Spelled pair_text (GoodPair d)) text_takes
       (λ n is. sound_word word.Comma (λ rest. expr rest >>= λ e. Some (record { name = n; value = e.0 }, e.1)) (λ b p. Spelled pair_text (GoodPair d) (literal_text n ++ b) p)
-      (sound_last expr (λ e. record { name = n; value = e }) expr_text Fits (λ b p. Spelled pair_text (GoodPair d) (literal_text n ++ (word_text word.Comma ++ b)) p) (λ e fits. (refl, (is, fits))) expr_takes))
+      (sound_last expr (λ e. record { name = n; value = e }) expr_text Fits (λ b p. Spelled pair_text (GoodPair d) (literal_text n ++ (word_text word.Comma ++ b)) p)
+      (λ e fits. (refl, (is, fits))) expr_takes))
 
   pairs_takes : Sound (pairs_with expr) (Behind (suc d) head.Object)
   unfolding pairs_with
@@ -218,8 +219,10 @@ module _ (d : ℕ) (expr : Reader ExprTree) (expr_takes : Sound expr (OneExpr d)
       order_list_takes
       (λ os good. sound_end word.OrEmptyArray (tree.aggregate (tree.json_agg e (orders_of os)))
       (λ b x. Behind (suc (suc d)) head.JsonAgg
-      (expr_text e ++ (word_text word.OrderBy ++ (separated word.Comma (map order_text os) ++ b))) x)
-      (ap (λ ts. word_text word.JsonAgg ++ (expr_text e ++ (word_text word.OrderBy ++ (separated word.Comma ts ++ word_text word.OrEmptyArray)))) (sym (order_texts_of os)), (at_least_one d os good, fits, fits_orders d os (all_of (GoodOrder d) os good))))))
+      (expr_text e ++ (word_text word.OrderBy ++ (separated word.Comma (map order_text os) ++ b))) x) (
+        ap (λ ts. word_text word.JsonAgg ++ (expr_text e ++ (word_text word.OrderBy ++ (separated word.Comma ts ++ word_text word.OrEmptyArray)))) (sym (order_texts_of os)),
+        (at_least_one d os good, fits, fits_orders d os (all_of (GoodOrder d) os good)),
+      ))))
 
   inside_takes : (ordered : Reader ExprTree) → Sound ordered (Behind (suc d) head.JsonAgg) → (h : Head) → Sound (inside_with expr ordered h) (Behind (suc d) h)
   unfolding inside_with
@@ -279,7 +282,8 @@ out_takes d =
     sound_next (expr_at d) (λ e bytes. after word.As bytes >>= λ rest. name_at rest >>= λ n. Some (record { value = e; name = n.0 }, n.1))
     expr_text (λ e. FitsExpr e d) (Spelled out_text (GoodOut d)) (expr_takes d)
     (λ e fits. sound_word word.As (λ rest. name_at rest >>= λ n. Some (record { value = e; name = n.0 }, n.1)) (λ b o. Spelled out_text (GoodOut d) (expr_text e ++ b) o)
-    (sound_last name_at (λ n. record { value = e; name = n }) name_text IsText (λ b o. Spelled out_text (GoodOut d) (expr_text e ++ (word_text word.As ++ b)) o) (λ n is. (refl, (fits, is))) (quoted_takes 34)))
+    (sound_last name_at (λ n. record { value = e; name = n }) name_text IsText (λ b o. Spelled out_text (GoodOut d) (expr_text e ++ (word_text word.As ++ b)) o)
+    (λ n is. (refl, (fits, is))) (quoted_takes 34)))
 
 pub orders_take : (d : ℕ) → Sound (all_many (order_with (expr_at d)) word.Comma) (Spelled (list_text (order_with (expr_at d)) word.Comma order_text (GoodOrder d)) (AllGood (GoodOrder d)))
 orders_take d = order_list_takes d (expr_at d) (expr_takes d)

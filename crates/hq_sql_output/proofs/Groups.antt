@@ -7,7 +7,7 @@ use Rattle.hq_sql_tree.specs.Meaning.{Scope as Names, World, cell_named, outputs
 use Rattle.hq_sql_tree.specs.declared.select.Out.{Out}
 use Rattle.hq_sql_tree.specs.declared.select.Select.{Select}
 use Rattle.hq_sql_access.specs.View.{beside, joined_view, row_in}
-use Rattle.hq_sql_access.specs.declared.place.Place.{Place}
+use Rattle.hq_sql_access.specs.declared.place.JoinedRow.{JoinedRow}
 use Rattle.hq_sql_output.specs.Grouped.{IsColumn, group_in}
 use Rattle.hq_sql_output.specs.Placed.{names_in}
 use Rattle.hq_sql_output.specs.Selected.{scopes_in}
@@ -20,13 +20,13 @@ same a = (bytes_eq-Decides a a).1 refl
 
 module _ (g : Grouped) (w : World) (n : Names) (e : ExprTree) (name : List ℕ) (h : IsColumn e g name) where
   -- the row of FROM at a place
-  here : (p : Place) → names_in g.placed w n p g.placed.alias.now ≡ row_in g.placed.source p.position
+  here : (p : JoinedRow) → names_in g.placed w n p g.placed.alias.now ≡ row_in g.placed.source p.position
   here p =
       ap (λ js. beside (joins_of (map join_view js)) w (with_alias n g.placed.alias.now (row_in g.placed.source p.position)) (joined_view p.joined) g.placed.alias.now) h.alone
       ∙ ap (λ b. cond b (row_in g.placed.source p.position) (n g.placed.alias.now)) (same g.placed.alias.now)
 
   -- the values of a column over the rows are its cells
-  values_at : (ps : List Place) → map (λ p. cell_named (row_in g.placed.source p.position) name) ps
+  values_at : (ps : List JoinedRow) → map (λ p. cell_named (row_in g.placed.source p.position) name) ps
       ≡ map (value e []) (map (with_alias n g.alias.now) (map (outputs (map out_view g.outs.now) []) (map (names_in g.placed w n) ps)))
   values_at [] = refl
   values_at (p ∷ ps) = ap₂ (λ c cs. c ∷ cs) (sym (h.value n (names_in g.placed w n p) ∙ ap (λ r. cell_named r name) (here p))) (values_at ps)
@@ -35,8 +35,8 @@ module _ (g : Grouped) (w : World) (n : Names) (e : ExprTree) (name : List ℕ) 
   column_values = values_at g.places.now
 
 -- the outputs at the places of a select's rows are its rows
-pub rows_there : (rows : Rows) (select : Select) (alias : List ℕ) (w : World) (n : Names) (N : Place → Names) (outs : List Out)
-    (ps : List Place)
+pub rows_there : (rows : Rows) (select : Select) (alias : List ℕ) (w : World) (n : Names) (N : JoinedRow → Names) (outs : List Out)
+    (ps : List JoinedRow)
     → outs ≡ rows.parts.outs.now.items → map N ps ≡ scopes_in rows w n
     → rows_of (select_view select) w n ≡ map (outputs (map out_view rows.parts.outs.now.items) []) (scopes_in rows w n)
     → map (with_alias n alias) (map (outputs (map out_view outs) []) (map N ps)) ≡ map (with_alias n alias) (rows_of (select_view select) w n)

@@ -9,7 +9,7 @@ use Rattle.hq_sql_access.specs.View.{names_at, names_of, source_view, world_of}
 use Rattle.hq_sql_access.specs.declared.pinned.Pinned.{Pinned}
 use Rattle.hq_sql_scans.specs.declared.positions.Positions.{Positions}
 use Rattle.hq_sql_access.specs.declared.scope.Scope.{Scope}
-use Rattle.hq_sql_access.specs.declared.place.Place.{Place}
+use Rattle.hq_sql_access.specs.declared.place.JoinedRow.{JoinedRow}
 use Rattle.hq_sql_access.specs.declared.stages.Parts.{Parts}
 use Rattle.hq_sql_select.specs.Selected.{Pages}
 use Rattle.hq_sql_select.specs.declared.scans.Piece.{Piece}
@@ -18,11 +18,11 @@ use Rattle.hq_sql_output.specs.declared.places.Found.TheVariants.{Arranged, Plac
 use Rattle.hq_sql_output.specs.declared.places.Placed.{Placed}
 
 -- at a place
-abbrev pub names_in : Placed → World → Names → Place → Names
+abbrev pub names_in : Placed → World → Names → JoinedRow → Names
 names_in placed world names place = names_at placed.source placed.alias.now (joins_of (map join_view placed.joins.now)) world names place
 
 -- the same among what is lent
-abbrev pub names_there : Placed → Pinned → Scope → Place → Names
+abbrev pub names_there : Placed → Pinned → Scope → JoinedRow → Names
 names_there placed world scope place = names_in placed (world_of world) (names_of scope world) place
 
 -- at the rows of FROM
@@ -54,6 +54,6 @@ found_at (Arranged positions) placed condition world scope = found_in placed pos
 found_at (Places places) placed condition world scope = map (names_there placed world scope) places.items
 
 -- these places are what WHERE keeps at these positions, by ORDER BY and DISTINCT ON
-abbrev pub AreSorted : Positions → Placed → Parts → Pinned → Scope → List Place → Type 0
+abbrev pub AreSorted : Positions → Placed → Parts → Pinned → Scope → List JoinedRow → Type 0
 AreSorted positions placed parts world scope places =
     Pages (rows_at placed.source positions) placed.source placed.alias.now placed.joins.now parts None None world scope places

@@ -12,7 +12,7 @@ use crate::parts::{put_cell, put_separator};
 use crate::places::{Placed, placed_rows, places_of};
 use hq_base::{Bytes, Memory, Txt, put_quoted};
 use hq_sql_access::pinned::Pinned;
-use hq_sql_access::place::Place;
+use hq_sql_access::place::JoinedRow;
 use hq_sql_access::row::cell_at;
 use hq_sql_access::scope::{Group, Scope, alias_of, row_at};
 use hq_sql_access::stages::stages;
@@ -27,7 +27,7 @@ pub struct Grouped<'s, 'd> {
     pub outs: &'d [Out],
     pub alias: &'d Txt,
     pub placed: Placed<'s, 'd>,
-    pub places: &'s [Place<'d>],
+    pub places: &'s [JoinedRow<'d>],
 }
 
 // The cells of a column of FROM.
@@ -35,7 +35,7 @@ fn cells_of<'d>(
     alloc: Global,
     name: &Txt,
     placed: &Placed<'_, 'd>,
-    places: &[Place<'d>],
+    places: &[JoinedRow<'d>],
 ) -> Result<Vec<Cell<'d>>, Memory>
     ensures { IfOk result (λ cells. map cell_view cells.items ≡ map (λ p. cell_named (row_in placed.now.source p.position) name.now) places.now) }
 {

@@ -11,7 +11,7 @@ ghost use Rattle.hq_sql_output.specs.Selected.{page_at};
 use crate::listed::Rows;
 use hq_base::{Memory, Txt};
 use hq_sql_access::pinned::Pinned;
-use hq_sql_access::place::Place;
+use hq_sql_access::place::JoinedRow;
 use hq_sql_access::row::Made;
 use hq_sql_access::scope::{Scope, Source, alias_of, source_of};
 use hq_sql_access::stages::Stage;
@@ -66,7 +66,7 @@ pub fn places_of<'s, 'd>(
     placed: &Placed<'s, 'd>,
     world: &Pinned<'d>,
     scope: &'s Scope<'s, 'd>,
-) -> Result<Vec<Place<'d>>, Memory>
+) -> Result<Vec<JoinedRow<'d>>, Memory>
     requires { placed.now.joins ≡ rows.now.joins }
     ensures { IfOk result (λ places. map (names_there placed.now world.now scope.now) places.items ≡ page_at rows.now placed.now world.now scope.now) }
 {
@@ -90,7 +90,7 @@ pub enum Found<'d> {
     /// At what WHERE keeps of these positions, as they stand.
     Arranged(Positions<'d>),
     /// At these places.
-    Places(Vec<Place<'d>>),
+    Places(Vec<JoinedRow<'d>>),
 }
 
 /// Where the rows of a select are. Those that stand in order, and have no OFFSET and LIMIT, are left where they stand, unless WHERE
@@ -139,7 +139,7 @@ fn sorted_at<'s, 'd>(
     positions: Positions<'d>,
     world: &Pinned<'d>,
     scope: &'s Scope<'s, 'd>,
-) -> Result<Vec<Place<'d>>, Memory>
+) -> Result<Vec<JoinedRow<'d>>, Memory>
     ensures { IfOk result (λ places. AreSorted positions.entry placed.now rows.now.parts world.now scope.now places.items) }
 {
     page_sorted(
@@ -191,7 +191,7 @@ pub fn stretch<'s, 'd>(
 }
 
 /// Whether a row was found, where it is known of those before these places.
-pub fn has_begun(begun: bool, places: &[Place<'_>]) -> bool
+pub fn has_begun(begun: bool, places: &[JoinedRow<'_>]) -> bool
     ensures { result ≡ (begun || has_items places.now) }
 {
     begun || !places.is_empty()

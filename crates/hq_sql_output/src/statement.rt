@@ -14,7 +14,7 @@ use crate::written::write_place;
 use hq_answer::{Answer, AnswerMember};
 use hq_base::{Bytes, Memory, Txt};
 use hq_sql_access::pinned::Pinned;
-use hq_sql_access::place::Place;
+use hq_sql_access::place::JoinedRow;
 use hq_sql_access::row::cell_taken;
 use hq_sql_access::scope::Scope;
 use hq_sql_access::stages::{Parts, stages};
@@ -36,7 +36,7 @@ fn members_at<'d>(
     alloc: Global,
     pairs: &'d ExprPairList,
     placed: &Placed<'_, 'd>,
-    place: &Place<'d>,
+    place: &JoinedRow<'d>,
     world: &Pinned<'d>,
     scope: &Scope<'_, 'd>,
 ) -> Result<Vec<AnswerMember>, Memory>

@@ -16,7 +16,7 @@ use crate::places::{
 };
 use hq_base::{Bytes, Memory, Txt, put_quoted};
 use hq_sql_access::pinned::Pinned;
-use hq_sql_access::place::Place;
+use hq_sql_access::place::JoinedRow;
 use hq_sql_access::resolved::{Resolved, resolve};
 use hq_sql_access::row::{Made, cell_at};
 use hq_sql_access::scope::{Group, Scope, row_at};
@@ -271,7 +271,7 @@ fn write_each<'d>(
     alloc: Global,
     expr: &'d Expr,
     placed: &Placed<'_, 'd>,
-    places: &[Place<'d>],
+    places: &[JoinedRow<'d>],
     begun: bool,
     world: &Pinned<'d>,
     scope: &Scope<'_, 'd>,
@@ -292,7 +292,7 @@ pub fn write_place<'d>(
     alloc: Global,
     expr: &'d Expr,
     placed: &Placed<'_, 'd>,
-    place: &Place<'d>,
+    place: &JoinedRow<'d>,
     world: &Pinned<'d>,
     scope: &Scope<'_, 'd>,
     out: &mut Bytes,

@@ -16,7 +16,7 @@ use Rattle.hq_sql_conjuncts.proofs.Depends.{select_has}
 use Rattle.hq_sql_access.specs.declared.scope.Source.{Source}
 use Rattle.hq_sql_access.specs.View.{first_row, beside, row_in, joined_view, place_of, names_at}
 use Rattle.hq_sql_access.specs.declared.row.Made.{Made}
-use Rattle.hq_sql_access.specs.declared.place.Place.{Place}
+use Rattle.hq_sql_access.specs.declared.place.JoinedRow.{JoinedRow}
 use Rattle.hq_sql_access.specs.Joined.{put_off}
 use Rattle.hq_sql_access.specs.Keys.{member_at, output_at, outputs_of}
 use Rattle.hq_sql_access.specs.Single.{is_single}
@@ -119,7 +119,7 @@ module _ (js : JoinTrees) (w : World) (n : Scope) (a : List ℕ) (keeps : Scope 
       kept_step rs i lt ∙ ap₂ (λ x y. x ++ y) none (ap (λ q. filter keeps (joined js w (with_alias n a q))) (sym e) ∙ sym h ∙ k)
 
   -- the places of one more row of FROM, behind what is there
-  pub scan_step : (before : List Scope) (from : Source) (rs : List NamedRow) (i p : ℕ) (r : NamedRow) (old : List Place)
+  pub scan_step : (before : List Scope) (from : Source) (rs : List NamedRow) (i p : ℕ) (r : NamedRow) (old : List JoinedRow)
       (lists : List (Vec (Option Made)))
       → i < length rs → row_in from p ≡ get_or rs i [] → r ≡ row_in from p
       → map (beside js w (with_alias n a r)) (map joined_view lists) ≡ filter keeps (joined js w (with_alias n a r))

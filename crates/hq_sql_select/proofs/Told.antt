@@ -2,10 +2,10 @@
 use Rattle.std.proofs.Common.{◌≡◌, ℕ, ◌<◌, List, [], ◌∷◌, filter, length, Bool, true, false, cond, ◌&&◌, refl, sym, ap, subst, ◌∙◌, arith}
 use Rattle.hq_sql_tree.specs.Meaning.{NamedRow, Scope, World, with_alias, joined, kept}
 use Rattle.hq_sql_tree.specs.Tree.{JoinTrees, no_join, FilterTree, FromTree}
-use Rattle.hq_sql_access.specs.Known.{Tells, IsKnown}
+use Rattle.hq_sql_access.specs.KnownRows.{Tells, IsKnown}
 use Rattle.hq_sql_access.specs.Sources.{alias_in, rows_given, has_items}
 use Rattle.hq_sql_access.specs.View.{source_view, row_in}
-use Rattle.hq_sql_access.specs.declared.pinned.Known.{Known}
+use Rattle.hq_sql_access.specs.declared.pinned.KnownRows.{KnownRows}
 use Rattle.hq_sql_access.specs.declared.scope.Source.{Source}
 use Rattle.hq_sql_access.proofs.RowsIn.{row_in_is}
 
@@ -21,7 +21,7 @@ none_in [] e = refl
 none_in (x ∷ xs) e = cc
 
 -- what is known of the rows of a source, at one of its positions
-pub tells_at : (w : World) (from : Source) (alias : List ℕ) (js : JoinTrees) (f : FilterTree) (k : Known) (n : Scope) (i : ℕ) (row : NamedRow)
+pub tells_at : (w : World) (from : Source) (alias : List ℕ) (js : JoinTrees) (f : FilterTree) (k : KnownRows) (n : Scope) (i : ℕ) (row : NamedRow)
     → IsKnown w (source_view from) alias js f k → row ≡ row_in from i → i < length k.truths.items → Tells f w k i (with_alias n alias row)
 tells_at w from alias js f k n i row h e lt =
     let whole = h.knows.whole in
@@ -37,6 +37,6 @@ pub known_in : (js : JoinTrees) (f : FilterTree) (w : World) (n : Scope) (b rest
 known_in js f w n b rest e h k = sym (alone_has js f w n e ∙ h ∙ ap (λ t. t && rest) k)
 
 -- what is known of a FROM, over the rows that it gives
-pub known_at : (w : World) (from : FromTree) (given rows : List NamedRow) (alias : List ℕ) (js : JoinTrees) (f : FilterTree) (k : Known) → rows ≡ rows_given from w given → alias ≡ alias_in from
+pub known_at : (w : World) (from : FromTree) (given rows : List NamedRow) (alias : List ℕ) (js : JoinTrees) (f : FilterTree) (k : KnownRows) → rows ≡ rows_given from w given → alias ≡ alias_in from
     → ((made : List NamedRow) → IsKnown w (rows_given from w made) (alias_in from) js f k) → IsKnown w rows alias js f k
 known_at w from given rows alias js f k e a h = subst (λ r. IsKnown w r alias js f k) (sym e) (subst (λ b. IsKnown w (rows_given from w given) b js f k) (sym a) (h given))

@@ -13,7 +13,7 @@ use Rattle.hq_sql_scans.specs.Positions.{rows_at, kept_of, arranged}
 use Rattle.hq_sql_access.specs.Sources.{alias_in, rows_given}
 use Rattle.hq_sql_access.specs.View.{made_view, names_at, names_of, world_of}
 use Rattle.hq_sql_access.specs.declared.pinned.Pinned.{Pinned}
-use Rattle.hq_sql_access.specs.declared.place.Place.{Place}
+use Rattle.hq_sql_access.specs.declared.place.JoinedRow.{JoinedRow}
 use Rattle.hq_sql_scans.specs.declared.positions.Positions.{Positions}
 use Rattle.hq_sql_access.specs.declared.row.Made.{Made}
 use Rattle.hq_sql_access.specs.declared.scope.Scope.{Scope}
@@ -27,7 +27,7 @@ abbrev pub kept_from : List NamedRow → (alias : List ℕ) → List Join → Op
 kept_from rows alias js f world scope = kept_of (joins_view js) (world_of world) (names_of scope world) alias (kept (filter_view f) (world_of world)) rows
 
 -- what is in scope at a place of a FROM
-abbrev pub scope_at : Source → (alias : List ℕ) → List Join → Pinned → Scope → Place → Names
+abbrev pub scope_at : Source → (alias : List ℕ) → List Join → Pinned → Scope → JoinedRow → Names
 scope_at source alias js world scope = names_at source alias (joins_view js) (world_of world) (names_of scope world)
 
 -- what WHERE keeps of the rows at the first so many positions, and then these places, is what it keeps of those before the next one
@@ -41,15 +41,15 @@ abbrev pub arranged_by : List Expr → List Order → List Names → List Names
 arranged_by es os names = arranged (map expr_view es) (map order_view os) names
 
 -- the second places are the first ones by ORDER BY, of which DISTINCT ON leaves some
-abbrev pub Arranges : (Place → Names) → List Expr → List Order → (places sorted : List Place) → Type 0
+abbrev pub Arranges : (JoinedRow → Names) → List Expr → List Order → (places sorted : List JoinedRow) → Type 0
 Arranges at es os places sorted = map at sorted ≡ arranged_by es os (map at places)
 
 -- the second places are those of the first ones that DISTINCT ON leaves
-abbrev pub Groups : (Place → Names) → List Expr → (places left : List Place) → Type 0
+abbrev pub Groups : (JoinedRow → Names) → List Expr → (places left : List JoinedRow) → Type 0
 Groups at es places left = map at left ≡ distinct_on (map expr_view es) (map at places)
 
 -- a place with its sort keys and its values of DISTINCT ON, in this scope
-abbrev pub keyed_in : List Order → List Expr → Names → Place → (List CellTree × List CellTree) × Place
+abbrev pub keyed_in : List Order → List Expr → Names → JoinedRow → (List CellTree × List CellTree) × JoinedRow
 keyed_in os es names place = keyed_at names (map order_view os) (map expr_view es) place
 
 -- what is in scope at each of these rows of an alias
@@ -62,16 +62,16 @@ paged_from rows alias js parts limit offset world scope =
     limited limit (offset_by offset (arranged_by parts.distinct.now.items parts.order.now.items (kept_from rows alias js parts.filter.now world scope)))
 
 -- these places of a FROM are those rows
-abbrev pub Pages : List NamedRow → Source → (alias : List ℕ) → List Join → Parts → (limit offset : Option ℕ) → Pinned → Scope → List Place → Type 0
+abbrev pub Pages : List NamedRow → Source → (alias : List ℕ) → List Join → Parts → (limit offset : Option ℕ) → Pinned → Scope → List JoinedRow → Type 0
 Pages rows source alias js parts limit offset world scope places = map (scope_at source alias js world scope) places ≡ paged_from rows alias js parts limit offset world scope
 
 -- the same, where nothing is left to arrange
-abbrev pub PagesFront : List NamedRow → Source → (alias : List ℕ) → List Join → Option Pred → (limit offset : Option ℕ) → Pinned → Scope → List Place → Type 0
+abbrev pub PagesFront : List NamedRow → Source → (alias : List ℕ) → List Join → Option Pred → (limit offset : Option ℕ) → Pinned → Scope → List JoinedRow → Type 0
 PagesFront rows source alias js f limit offset world scope places =
     map (scope_at source alias js world scope) places ≡ limited limit (offset_by offset (kept_from rows alias js f world scope))
 
 -- the same, where DISTINCT ON alone is left to do
-abbrev pub PagesGroups : List NamedRow → Source → (alias : List ℕ) → List Join → Parts → (limit offset : Option ℕ) → Pinned → Scope → List Place → Type 0
+abbrev pub PagesGroups : List NamedRow → Source → (alias : List ℕ) → List Join → Parts → (limit offset : Option ℕ) → Pinned → Scope → List JoinedRow → Type 0
 PagesGroups rows source alias js parts limit offset world scope places =
     map (scope_at source alias js world scope) places
     ≡ limited limit (offset_by offset (distinct_on (map expr_view parts.distinct.now.items) (kept_from rows alias js parts.filter.now world scope)))

@@ -13,7 +13,7 @@ use crate::pages::page;
 use crate::values::value;
 use hq_base::{Memory, Txt};
 use hq_sql_access::pinned::Pinned;
-use hq_sql_access::place::Place;
+use hq_sql_access::place::JoinedRow;
 use hq_sql_access::row::{Made, first_row, one_row};
 use hq_sql_access::scope::{Group, Scope, Source, alias_of, row_at, source_of};
 use hq_sql_access::stages::{Parts, Stage, stages};
@@ -141,7 +141,7 @@ fn all_outputs<'s, 'd>(
     joins: &'d [Join],
     stages: &[Stage],
     outs: &'d OutList,
-    places: &[Place<'d>],
+    places: &[JoinedRow<'d>],
     world: &Pinned<'d>,
     scope: &'s Scope<'s, 'd>,
 ) -> Result<Vec<Made<'d>>, Memory>

@@ -13,7 +13,7 @@ use crate::values::{keys, values};
 use hq_base::{Memory, Txt};
 use hq_sql_access::cells::{arranged, grouped};
 use hq_sql_access::pinned::Pinned;
-use hq_sql_access::place::{Place, with_more};
+use hq_sql_access::place::{JoinedRow, with_more};
 use hq_sql_access::scope::{Scope, Source, row_at};
 use hq_sql_access::stages::{Parts, Stage};
 use hq_sql_cells::{Kept, paged};
@@ -40,7 +40,7 @@ pub fn page<'s, 'd>(
     offset: Option<u64>,
     world: &Pinned<'d>,
     scope: &'s Scope<'s, 'd>,
-) -> Result<Vec<Place<'d>>, Memory>
+) -> Result<Vec<JoinedRow<'d>>, Memory>
     ensures { IfOk result (λ places. Pages (source_view source.entry) source.entry alias.now joins.now parts.entry limit offset world.now scope.now places.items) }
 {
     let looked = ordered_at(
@@ -87,7 +87,7 @@ fn page_front<'s, 'd>(
     offset: Option<u64>,
     world: &Pinned<'d>,
     scope: &'s Scope<'s, 'd>,
-) -> Result<Vec<Place<'d>>, Memory>
+) -> Result<Vec<JoinedRow<'d>>, Memory>
     ensures { IfOk result (λ places. PagesFront (rows_at source.entry positions.entry) source.entry alias.now joins.now filter.now limit offset world.now scope.now places.items) }
 {
     let bound = enough(limit, offset);
@@ -120,7 +120,7 @@ fn page_grouped<'s, 'd>(
     offset: Option<u64>,
     world: &Pinned<'d>,
     scope: &'s Scope<'s, 'd>,
-) -> Result<Vec<Place<'d>>, Memory>
+) -> Result<Vec<JoinedRow<'d>>, Memory>
     ensures { IfOk result (λ places. PagesGroups (rows_at source.entry positions.entry) source.entry alias.now joins.now parts.entry limit offset world.now scope.now places.items) }
 {
     let bound = enough(limit, offset);
@@ -172,7 +172,7 @@ fn page_top<'s, 'd>(
     offset: Option<u64>,
     world: &Pinned<'d>,
     scope: &'s Scope<'s, 'd>,
-) -> Result<Vec<Place<'d>>, Memory>
+) -> Result<Vec<JoinedRow<'d>>, Memory>
     requires alone { parts.distinct.now.items ≡ [] }
     requires suffices { Suffices limit offset (Some bound) }
     ensures { IfOk result (λ places. Pages (rows_at source.entry positions.entry) source.entry alias.now joins.now parts.entry limit offset world.now scope.now places.items) }
@@ -219,7 +219,7 @@ pub fn page_sorted<'s, 'd>(
     offset: Option<u64>,
     world: &Pinned<'d>,
     scope: &'s Scope<'s, 'd>,
-) -> Result<Vec<Place<'d>>, Memory>
+) -> Result<Vec<JoinedRow<'d>>, Memory>
     ensures { IfOk result (λ places. Pages (rows_at source.entry positions.entry) source.entry alias.now joins.now parts.entry limit offset world.now scope.now places.items) }
 {
     let found = scan_from(
@@ -259,10 +259,10 @@ fn in_order<'s, 'd>(
     joins: &'d [Join],
     distinct: &'d ExprList,
     order: &'d OrderList,
-    places: Vec<Place<'d>>,
+    places: Vec<JoinedRow<'d>>,
     world: &Pinned<'d>,
     scope: &'s Scope<'s, 'd>,
-) -> Result<Vec<Place<'d>>, Memory>
+) -> Result<Vec<JoinedRow<'d>>, Memory>
     ensures { IfOk result (λ sorted. Arranges (scope_at source.entry alias.now joins.now world.now scope.now) distinct.now.items order.now.items places.entry.items sorted.items) }
 {
     if order.is_empty() && distinct.is_empty() {
@@ -283,10 +283,10 @@ fn in_groups<'s, 'd>(
     joins: &'d [Join],
     distinct: &'d ExprList,
     order: &'d OrderList,
-    places: Vec<Place<'d>>,
+    places: Vec<JoinedRow<'d>>,
     world: &Pinned<'d>,
     scope: &'s Scope<'s, 'd>,
-) -> Result<Vec<Place<'d>>, Memory>
+) -> Result<Vec<JoinedRow<'d>>, Memory>
     ensures { IfOk result (λ left. Groups (scope_at source.entry alias.now joins.now world.now scope.now) distinct.now.items places.entry.items left.items) }
 {
     let kept = keyed(
@@ -304,10 +304,10 @@ fn keyed<'s, 'd>(
     joins: &'d [Join],
     distinct: &'d ExprList,
     order: &'d OrderList,
-    places: Vec<Place<'d>>,
+    places: Vec<JoinedRow<'d>>,
     world: &Pinned<'d>,
     scope: &'s Scope<'s, 'd>,
-) -> Result<Vec<Kept<'d, Place<'d>>>, Memory>
+) -> Result<Vec<Kept<'d, JoinedRow<'d>>>, Memory>
     ensures { IfOk result
         (λ kept. map with_cells kept.items
         ≡ map
@@ -334,10 +334,10 @@ fn with_keys<'d>(
     joins: &'d [Join],
     distinct: &'d ExprList,
     order: &'d OrderList,
-    place: Place<'d>,
+    place: JoinedRow<'d>,
     world: &Pinned<'d>,
     scope: &Scope<'_, 'd>,
-) -> Result<Kept<'d, Place<'d>>, Memory>
+) -> Result<Kept<'d, JoinedRow<'d>>, Memory>
     ensures { IfOk result
         (λ kept. with_cells kept
         ≡ keyed_in order.now.items distinct.now.items

@@ -4,7 +4,7 @@ ghost use Rattle.hq_sql_conjuncts.specs.Conjuncts.{lent_weight};
 ghost use Rattle.hq_sql_conjuncts.specs.Weight.{filter_weight};
 ghost use Rattle.hq_sql_tree.specs.Tree.{no_join};
 ghost use Rattle.hq_sql_tree.specs.View.{filter_view};
-ghost use Rattle.hq_sql_access.specs.Known.{IsKnown, Tells};
+ghost use Rattle.hq_sql_access.specs.KnownRows.{IsKnown, Tells};
 ghost use Rattle.hq_sql_scans.specs.Pages.{is_enough};
 ghost use Rattle.hq_sql_scans.specs.Positions.{positions_of};
 ghost use Rattle.hq_sql_access.specs.Sources.{has_items};
@@ -15,8 +15,8 @@ ghost use Rattle.hq_sql_select.specs.Selected.{Continues, kept_from};
 use crate::joins::gather;
 use crate::truths::all_hold;
 use hq_base::{Memory, Txt};
-use hq_sql_access::pinned::{Known, Pinned};
-use hq_sql_access::place::{Place, add_places};
+use hq_sql_access::pinned::{KnownRows, Pinned};
+use hq_sql_access::place::{JoinedRow, add_places};
 use hq_sql_access::scope::{Scope, Source, row_at};
 use hq_sql_access::stages::Stage;
 use hq_sql_scans::pages::has_enough;
@@ -27,7 +27,7 @@ use std::alloc::Global;
 /// Places of rows that WHERE keeps, and the number of the next position.
 #[derive(Drop)]
 pub struct Piece<'d> {
-    pub places: Vec<Place<'d>>,
+    pub places: Vec<JoinedRow<'d>>,
     pub next: usize,
 }
 
@@ -80,7 +80,7 @@ fn keeps_some<'d>(
     joins: &'d [Join],
     stages: &[Stage],
     filter: &'d Option<Pred>,
-    known: Option<&Known<'d>>,
+    known: Option<&KnownRows<'d>>,
     world: &Pinned<'d>,
     scope: &Scope<'_, 'd>,
 ) -> Result<bool, Memory>
@@ -109,7 +109,7 @@ pub fn any_row<'s, 'd>(
     joins: &'d [Join],
     stages: &[Stage],
     filter: &'d Option<Pred>,
-    known: Option<&Known<'d>>,
+    known: Option<&KnownRows<'d>>,
     world: &Pinned<'d>,
     scope: &'s Scope<'s, 'd>,
 ) -> Result<bool, Memory>

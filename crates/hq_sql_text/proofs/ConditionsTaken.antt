@@ -117,7 +117,8 @@ module _ (d : ℕ) (condition : Reader PredTree) (condition_takes : Sound condit
       (λ b x. Inside d (pred_text p ++ (word_text word.And ++ b)) x) (all_made p) (others_take word.And p fits))
       (λ bytes. after word.Or bytes >>= λ rest. others_with condition word.Or p rest >>= λ ps. Some (tree.any_of (preds_of ps.0), ps.1))
       (sound_word word.Or (λ rest. others_with condition word.Or p rest >>= λ ps. Some (tree.any_of (preds_of ps.0), ps.1)) (λ b x. Inside d (pred_text p ++ b) x)
-      (sound_made (others_with condition word.Or p) (λ ps. tree.any_of (preds_of ps)) (Members word.Or p) (λ b x. Inside d (pred_text p ++ (word_text word.Or ++ b)) x) (any_made p) (others_take word.Or p fits))))
+      (sound_made (others_with condition word.Or p) (λ ps. tree.any_of (preds_of ps)) (Members word.Or p)
+      (λ b x. Inside d (pred_text p ++ (word_text word.Or ++ b)) x) (any_made p) (others_take word.Or p fits))))
 
   negated_takes : Sound (negated_with condition) (λ b p. Inside d (word_text word.Not ++ b) p)
   unfolding negated_with

@@ -37,7 +37,8 @@ table_takes d =
     (sound_next name_at (λ t bytes. after word.As bytes >>= λ rest. name_at rest >>= λ a. Some (tree.table s t a.0, a.1)) name_text IsText
     (λ b f. OneFrom d (name_text s ++ (word_text word.Dot ++ b)) f) (quoted_takes 34)
     (λ t is_t. sound_word word.As (λ rest. name_at rest >>= λ a. Some (tree.table s t a.0, a.1)) (λ b f. OneFrom d (name_text s ++ (word_text word.Dot ++ (name_text t ++ b))) f)
-    (sound_last name_at (λ a. tree.table s t a) name_text IsText (λ b f. OneFrom d (name_text s ++ (word_text word.Dot ++ (name_text t ++ (word_text word.As ++ b)))) f) (λ a is_a. (refl, (is_s, is_t, is_a))) (quoted_takes 34)))))
+    (sound_last name_at (λ a. tree.table s t a) name_text IsText (λ b f. OneFrom d (name_text s ++ (word_text word.Dot ++ (name_text t ++ (word_text word.As ++ b)))) f)
+    (λ a is_a. (refl, (is_s, is_t, is_a))) (quoted_takes 34)))))
 
 one_takes : (d : ℕ) → Sound (one_at d) (λ b f. OneFrom d (word_text word.Open ++ (word_text word.One ++ b)) f)
 unfolding one_at
@@ -59,7 +60,8 @@ module _ (query : Reader SelectTree) (Q : SelectTree → Type 0) (query_takes : 
       (λ s bytes. after word.CloseAs bytes >>= λ rest. name_at rest >>= λ a. Some (record { select = s; alias = a.0 }, a.1)) select_text Q
       (Spelled aliased_text (GoodAliased Q)) query_takes
       (λ s good. sound_word word.CloseAs (λ rest. name_at rest >>= λ a. Some (record { select = s; alias = a.0 }, a.1)) (λ b j. Spelled aliased_text (GoodAliased Q) (select_text s ++ b) j)
-      (sound_last name_at (λ a. record { select = s; alias = a }) name_text IsText (λ b j. Spelled aliased_text (GoodAliased Q) (select_text s ++ (word_text word.CloseAs ++ b)) j) (λ a is. (refl, (good, is))) (quoted_takes 34)))
+      (sound_last name_at (λ a. record { select = s; alias = a }) name_text IsText (λ b j. Spelled aliased_text (GoodAliased Q) (select_text s ++ (word_text word.CloseAs ++ b)) j)
+      (λ a is. (refl, (good, is))) (quoted_takes 34)))
 
   join_takes : Sound (join_with query) (Spelled join_text (GoodAliased Q))
   unfolding join_with
@@ -77,7 +79,8 @@ module _ (query : Reader SelectTree) (Q : SelectTree → Type 0) (query_takes : 
       sound_choose word.Open (λ rest. choose (after word.One rest) (one_at d) (aliased_with query rest >>= λ s. Some (tree.sub s.0.select s.0.alias, s.1))) (OneFrom d)
       (sound_choose word.One (one_at d) (λ b f. OneFrom d (word_text word.Open ++ b) f) (one_takes d)
       (λ rest. aliased_with query rest >>= λ s. Some (tree.sub s.0.select s.0.alias, s.1))
-      (sound_last (aliased_with query) (λ j. tree.sub j.select j.alias) aliased_text (GoodAliased Q) (λ b f. OneFrom d (word_text word.Open ++ b) f) (λ j good. (refl, sub_fits j.select j.alias good.0 good.1)) aliased_takes))
+      (sound_last (aliased_with query) (λ j. tree.sub j.select j.alias) aliased_text (GoodAliased Q) (λ b f. OneFrom d (word_text word.Open ++ b) f)
+      (λ j good. (refl, sub_fits j.select j.alias good.0 good.1)) aliased_takes))
       table_at
       (table_takes d)
 

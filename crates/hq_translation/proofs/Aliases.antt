@@ -21,7 +21,7 @@ use Rattle.hq_sql_tree.specs.Tree.{ExprTree, SelectTree, JoinTree, joins_of, Pre
 use Rattle.hq_sql_tree.specs.WellFormed.{aliases_in, aliases_in_joins, aliases_in_filter, aliases_in_pred, aliases_in_preds}
 use Rattle.hq_translation.specs.Names.{table_alias, fold_alias, join_alias}
 use Rattle.hq_translation.specs.Looks.{Look}
-use Rattle.hq_translation.specs.Rights.{Rights}
+use Rattle.hq_translation.specs.GrantedTables.{GrantedTables}
 use Rattle.hq_translation.specs.Conditions.{joined_by_and, joined_by_or, with_member, where_of, negation_if, literals_for, test_of}
 use Rattle.hq_translation.specs.Predicates.{link_members, link, Mode, columns_in, guard_from, inner_from, numbers, numbers_all, predicate, predicates, filter_mode, own_numbers, own_predicate}
 use Rattle.hq_translation.specs.Masks.{mask_numbers, mask_joins, mask_select, used_masks, masks, filter_predicate, shown_look, where_mode}
@@ -338,7 +338,7 @@ module _ (s : Schema) where
       (binds_wider (n + 1) (n + 1 + own_numbers m.shown s t) mid (aliases_in_pred pred) (omega arith) (own_binds m.shown t p (n + 1) (omega arith))))
       (masks_bind ms t p mid (omega arith))
 
-  module _ (g : Rights) where
+  module _ (g : GrantedTables) where
     where_ok : ModeBinds (where_mode s g)
     where_ok = record {
       guarded = λ u n from bound. own_binds (g.filter u) u n from bound;
@@ -520,7 +520,7 @@ module _ (s : Schema) where
       part_binds (part_typename name) o t p a n bound = joins_none n (n + 0)
 
 -- the statement
-pub aliases_differ : (fs : FieldTrees) (s : Schema) (g : Rights) → 1 + fields_numbers fs s g (length s) ≤ 2 ^ 64 → all_differ bytes_eq (aliases_in (statement fs s g) []) ≡ true
+pub aliases_differ : (fs : FieldTrees) (s : Schema) (g : GrantedTables) → 1 + fields_numbers fs s g (length s) ≤ 2 ^ 64 → all_differ bytes_eq (aliases_in (statement fs s g) []) ≡ true
 aliases_differ fs s g bound =
     let joins = fields_bind s g fs (length s) 0 1 (omega arith) in
     let hi : ℕ = 1 + fields_numbers fs s g (length s) in

@@ -16,7 +16,7 @@ use Rattle.hq_request_tree.specs.Fields.{FieldTrees}
 use Rattle.hq_request_tree.specs.Request.{AskTree, grants_in}
 use Rattle.hq_request_tree.specs.Root.{table_fields}
 use Rattle.hq_translation.specs.Fine.{Known, FineRights}
-use Rattle.hq_translation.specs.Rights.{Rights}
+use Rattle.hq_translation.specs.GrantedTables.{GrantedTables}
 use Rattle.hq_translation.specs.Shallow.{LowRights, fields_height}
 use Rattle.hq_translation.proofs.Meaning.{means_resolved}
 use Rattle.hq_translation.proofs.WellFormed.{is_well_formed}
@@ -34,7 +34,7 @@ numbered_long f k (x ∷ xs) = ap suc (numbered_long f (suc k) xs)
 pub well_asked : (tables : List Table) (m : MetaTree) (a : AskTree) → UsesExisting tables m (table_request a) → IsAsked tables m a
 well_asked tables m a there catalog fitting request held fits =
     let s : Schema = schema_of tables m in
-    let g : Rights = asked_rights tables m a in
+    let g : GrantedTables = asked_rights tables m a in
     let fs : FieldTrees = table_fields a.fields in
     let r : IsRequest tables m (table_request a) = tables_asked tables m a request in
     let long : length tables ≡ length s = sym (numbered_long (schema_table m) 0 tables) in

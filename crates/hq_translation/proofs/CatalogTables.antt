@@ -8,13 +8,13 @@ use Rattle.hq_model.specs.Schema.{Schema, numbered, schema_of, schema_table, tab
 use Rattle.hq_model.specs.declared.table.Column.{Column}
 use Rattle.hq_model.specs.declared.table.Table.{Table}
 use Rattle.hq_sql_tree.specs.WellFormed.{is_table, table_names}
-use Rattle.hq_translation.specs.Rights.{Rights}
+use Rattle.hq_translation.specs.GrantedTables.{GrantedTables}
 use Rattle.hq_translation.specs.Correct.{HasKey}
 use Rattle.hq_translation.specs.Fine.{kinds_of, Known, Has, FineBexp, FineMask, FineRights}
 use Rattle.hq_translation.proofs.Names.{same_text, Differ}
 use Rattle.hq_translation.proofs.Sound.{both, negated, table_at, schema_is, IsNamed, named_tables, same_full, other_table}
 
-pub record FineTable (s : Schema) (g : Rights) (tables : List Table) (t : ℕ) : Type 0 where
+pub record FineTable (s : Schema) (g : GrantedTables) (tables : List Table) (t : ℕ) : Type 0 where
   pub found : list_any (is_table (table s t).schema (table s t).name) tables ≡ true
   pub names : table_names tables (table s t).schema (table s t).name ≡ kinds_of (table s t).columns
   pub differ : Differ (table s t).columns
@@ -23,7 +23,7 @@ pub record FineTable (s : Schema) (g : Rights) (tables : List Table) (t : ℕ) :
   pub filter : FineBexp (g.filter t) s t
   pub masks : Each (FineMask s t) (g.masks t)
 
-abbrev pub FineTables : Schema → Rights → List Table → Type 0
+abbrev pub FineTables : Schema → GrantedTables → List Table → Type 0
 FineTables s g tables = (t : ℕ) → Known s t → FineTable s g tables t
 
 names_at : (tables : List Table) (t : ℕ) → Each IsNamed tables → all_differ same_full tables ≡ true → t < length tables
@@ -51,7 +51,7 @@ numbered_length : {A B : Type 0} (f : ℕ → A → B) (k : ℕ) (xs : List A) �
 numbered_length f k [] = refl
 numbered_length f k (x ∷ xs) = ap suc (numbered_length f (suc k) xs)
 
-pub fine_tables : (tables : List Table) (meta : MetaTree) (g : Rights) → is_catalog tables ≡ true
+pub fine_tables : (tables : List Table) (meta : MetaTree) (g : GrantedTables) → is_catalog tables ≡ true
     → ((t : ℕ) → Known (schema_of tables meta) t → FineRights (schema_of tables meta) g t) → FineTables (schema_of tables meta) g tables
 fine_tables tables meta g c rights t known =
     let parts = both _ _ c in

@@ -36,7 +36,7 @@ use Rattle.hq_sql_tree.specs.Tree.{ExprTree, AggTree, PairTree, OrderTree, OutTr
 use Rattle.hq_sql_tree.specs.Form.{is_expr, are_pairs, is_agg, are_orders, holds_agg, hold_agg, is_lone_agg, is_select, are_joins, is_filter, is_pred, are_preds}
 use Rattle.hq_translation.specs.Names.{table_alias, fold_alias, value_name, unit_name}
 use Rattle.hq_translation.specs.Looks.{Look, own_look, cell_at, type_in}
-use Rattle.hq_translation.specs.Rights.{Rights}
+use Rattle.hq_translation.specs.GrantedTables.{GrantedTables}
 use Rattle.hq_translation.proofs.TextLiterals.{of_either}
 use Rattle.hq_translation.specs.Conditions.{literal, operand_literal, joined_by_and, joined_by_or, with_member, where_of, negation_if, first_literal, literals_for, test_of}
 use Rattle.hq_translation.specs.Predicates.{link_members, link, Mode, columns_in, guard_from, inner_from, numbers, predicate, predicates, filter_mode, own_numbers, own_predicate}
@@ -254,11 +254,11 @@ distinct_form : (columns : List Column) (look : Look) (cs : List ℕ) → list_a
 distinct_form columns look [] = refl
 distinct_form columns look (c ∷ cs) = distinct_form columns look cs
 
-orders_form : (ks : List Sort) (s : Schema) (g : Rights) (look : Look) (t p n : ℕ) → list_all (λ k. is_expr k.value) (orders ks s g look t p n) ≡ true
+orders_form : (ks : List Sort) (s : Schema) (g : GrantedTables) (look : Look) (t p n : ℕ) → list_all (λ k. is_expr k.value) (orders ks s g look t p n) ≡ true
 orders_form [] s g look t p n = refl
 orders_form (k ∷ ks) s g look t p n = orders_form ks s g look t p (n + sort_numbers k.key.through s g t k.key.column)
 
-outputs_form : (ks : List Sort) (s : Schema) (g : Rights) (look : Look) (t p n i : ℕ) → list_all (λ o. is_expr o.value) (key_outputs ks s g look t p n i) ≡ true
+outputs_form : (ks : List Sort) (s : Schema) (g : GrantedTables) (look : Look) (t p n i : ℕ) → list_all (λ o. is_expr o.value) (key_outputs ks s g look t p n i) ≡ true
 outputs_form [] s g look t p n i = refl
 outputs_form (k ∷ ks) s g look t p n i = outputs_form ks s g look t p (n + sort_numbers k.key.through s g t k.key.column) (i + 1)
 
@@ -288,7 +288,7 @@ field_form (by_key u key fs) columns look n = refl
 field_form (aggregate o a ps) columns look n = refl
 field_form (introspect f) columns look n = refl
 
-fields_form : (fs : FieldTrees) (s : Schema) (g : Rights) (look : Look) (t n : ℕ) → are_pairs (pairs_of (fields_values fs s g look t n)) ≡ true
+fields_form : (fs : FieldTrees) (s : Schema) (g : GrantedTables) (look : Look) (t n : ℕ) → are_pairs (pairs_of (fields_values fs s g look t n)) ≡ true
 fields_form no_field s g look t n = refl
 fields_form (field key f fs) s g look t n = rw (field_form f (table s t).columns look n) (fields_form fs s g look t (n + field_numbers f s g t))
 
@@ -297,7 +297,7 @@ part_form (summary fs) n = refl
 part_form (nodes fs) n = refl
 part_form (part_typename name) n = refl
 
-parts_form : (ps : PartTrees) (s : Schema) (g : Rights) (u : ℕ) (a : ListArguments) (n : ℕ) → are_pairs (pairs_of (parts_values ps s g u a n)) ≡ true
+parts_form : (ps : PartTrees) (s : Schema) (g : GrantedTables) (u : ℕ) (a : ListArguments) (n : ℕ) → are_pairs (pairs_of (parts_values ps s g u a n)) ≡ true
 parts_form no_part s g u a n = refl
 parts_form (part key p ps) s g u a n = rw (part_form p n) (parts_form ps s g u a (n + part_numbers p s g u a))
 
@@ -368,7 +368,7 @@ needed_outputs_form look (c ∷ cs) = needed_form look cs 1
 
 -- ---- the selects
 
-module _ (s : Schema) (g : Rights) where
+module _ (s : Schema) (g : GrantedTables) where
   where_forms : ModeForms (where_mode s g)
   where_forms = record { guard = λ u n from. own_form (g.filter u) s u n from; joins = λ u cs n. masks_form (used_masks g u cs) s u n (n + 1) }
 
@@ -529,7 +529,7 @@ module _ (s : Schema) (g : Rights) where
     joins_of_part (part_typename name) o t p a n h = tt
 
 -- the statement
-pub statement_form : (fs : FieldTrees) (s : Schema) (g : Rights) → AreKeyed fs s (length s) → is_select (statement fs s g) ≡ true
+pub statement_form : (fs : FieldTrees) (s : Schema) (g : GrantedTables) → AreKeyed fs s (length s) → is_select (statement fs s g) ≡ true
 statement_form fs s g h =
     let look : Look = own_look (table s (length s)).columns 0 in
     one_form (tree.object (pairs_of (fields_values fs s g look (length s) 1))) value_name (table_alias 0)

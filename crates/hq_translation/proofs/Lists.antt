@@ -18,7 +18,7 @@ use Rattle.hq_model.specs.declared.table.Column.{Column}
 use Rattle.hq_model.specs.declared.table.Table.{Table}
 use Rattle.hq_sql_tree.specs.Tree.{OutTree, PairTree, pairs_of, orders_of, JoinTree, PredTree}
 use Rattle.hq_sql_tree.specs.Meaning.{NamedRow, cell_named, Scope, with_alias, World, members, outputs, orders_cmp, same_values, distinct_on, rows_of, truth_at}
-use Rattle.hq_translation.specs.Rights.{rights_of}
+use Rattle.hq_translation.specs.GrantedTables.{rights_of}
 use Rattle.hq_translation.specs.Names.{fold_alias, join_alias, value_name}
 use Rattle.hq_translation.specs.Looks.{Look}
 use Rattle.hq_translation.specs.Conditions.{with_member, where_of}
@@ -195,7 +195,8 @@ module _ (s : Schema) (tables : List Table) (d : List (List Row)) (sound : Sound
                 kept_three w (X far) tie own wanted
                 ∙ ap₂ (λ b c. b && c) (means far narrow)
                 (ap₂ (λ b c. b && (c && true)) (own_means s tables d sound (grant g u).filter u n (filter_from s (rights_of g) u cs n) (X far) far (omega arith) (omega arith) (x_shows far narrow))
-                (ap is_true (where_means s tables d sound g a.wanted look u n (behind_filter s (rights_of g) u cs n) (X far) far (omega arith) (omega arith) (x_shows far narrow) (x_where far narrow))));
+                (ap is_true (where_means s tables d sound g a.wanted look u n (behind_filter s (rights_of g) u cs n) (X far) far (omega arith) (omega arith)
+                (x_shows far narrow) (x_where far narrow))));
             ordered = λ x y p q. orders_shown s g d keys look u n from (X x) (X y) x y (x_sorts x p) (x_sorts y q);
           }
 

@@ -17,9 +17,9 @@ use Rattle.hq_model.specs.Truth.{truth, keeps}
 use Rattle.hq_model.specs.declared.table.Table.{Table}
 use Rattle.hq_sql_tree.specs.Tree.{JoinTree, PredTree}
 use Rattle.hq_sql_tree.specs.Meaning.{NamedRow, cell_named, Scope, with_alias, World, or_null_row, order_cmp, outputs, rows_of, kept, truth_at}
-use Rattle.hq_translation.specs.Rights.{rights_of}
+use Rattle.hq_translation.specs.GrantedTables.{rights_of}
 use Rattle.hq_translation.specs.Names.{table_alias, join_alias, value_name}
-use Rattle.hq_translation.specs.Looks.{Look, Place, own_look, cell_at, is_used}
+use Rattle.hq_translation.specs.Looks.{Look, ColumnName, own_look, cell_at, is_used}
 use Rattle.hq_translation.specs.Conditions.{with_member, where_of}
 use Rattle.hq_translation.specs.Predicates.{columns_in, numbers, predicate, own_numbers, own_predicate}
 use Rattle.hq_translation.specs.Masks.{value_output, value_place, mask_numbers, mask_select, mask_joins, mask_look, used_masks, extra, masks, shown_look, where_mode}
@@ -99,7 +99,7 @@ module _ (s : Schema) (tables : List Table) (d : List (List Row)) (sound : Sound
   abbrev masked_cell : List Mask → ℕ → Row → ℕ → CellTree
   masked_cell ms t row c = cond (keeps (mask_of ms c) s (all_of s d) t row) (row_cell row c) null
 
-  abbrev found : Scope → Place → CellTree
+  abbrev found : Scope → ColumnName → CellTree
   found scope p = cell_named (scope p.alias) p.name
 
   mask_looks : (ms : List Mask) (t p n c : ℕ) (scope : Scope) (row : Row) → p < n → n + mask_numbers ms s t ≤ 2 ^ 64 → Shows s scope t p row

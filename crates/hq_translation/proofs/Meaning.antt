@@ -22,7 +22,7 @@ use Rattle.hq_request_tree.specs.Resolve.{origin_table, origin_rows, shows_key, 
 use Rattle.hq_sql_tree.specs.Tree as tree
 use Rattle.hq_sql_tree.specs.Tree.{JoinTree, joins_of, pairs_of, PredTree}
 use Rattle.hq_sql_tree.specs.Meaning.{NamedRow, cell_named, Scope, nothing, with_alias, World, value, members, outputs, order_cmp, or_null_row, first_value, rows_of, kept, truth_at}
-use Rattle.hq_translation.specs.Rights.{rights_of}
+use Rattle.hq_translation.specs.GrantedTables.{rights_of}
 use Rattle.hq_translation.specs.Names.{table_alias, join_alias, value_name}
 use Rattle.hq_translation.specs.Looks.{Look, own_look, type_in}
 use Rattle.hq_translation.specs.Conditions.{joined_by_and}
@@ -399,7 +399,8 @@ module _ (s : Schema) (tables : List Table) (d : List (List Row)) (g : Grants) w
           let whole = first_extends u cs fs n bound x in
           extends_one s w _ t p n (field_numbers (object r fs) s (rights_of g) t) (λ row. objects (given_all fs u) (related s (seen_by s g d) t r row)) (omega arith)
           (λ scope row shows. first_gives u cs fs n (link s t (rel s t r) p n) (linked_by (rel s t r).pairs row) bound x (λ e far l. l) scope
-          (λ far narrow. link_means s w t (rel s t r) p n _ row far (behind_above s tables d sound u n _ _ _ _ whole scope far t p row lt (omega arith) shows) (behind_shows s tables d sound u n _ _ _ _ whole scope far narrow)))
+          (λ far narrow. link_means s w t (rel s t r) p n _ row far (behind_above s tables d sound u n _ _ _ _ whole scope far t p row lt (omega arith) shows)
+          (behind_shows s tables d sound u n _ _ _ _ whole scope far narrow)))
       field_extends (list o a fs) t p n lt bound few =
           let u : ℕ = origin_table o s t in
           let x = fields_extend fs u n (kids_from s (rights_of g) u a fs n) (omega arith) (omega arith) few.1 in
@@ -413,7 +414,9 @@ module _ (s : Schema) (tables : List Table) (d : List (List Row)) (g : Grants) w
           (λ row. objects (given_all fs u) (filter (shows_key columns key (seen_by s g d) u) (permitted s g d u))) (omega arith)
           (λ scope row shows. first_gives u cs fs n (joined_by_and (key_members (table s u).columns (shown_look s (rights_of g) u cs n) columns key)) (shows_key columns key (seen_by s g d) u) bound x
           (λ e far l. looks_right (shown_look s (rights_of g) u cs n) columns (fields_used fs) e (shown s g d u far) l) scope
-          (λ far narrow. key_means u (shown_look s (rights_of g) u cs n) columns key (with_first u cs fs n far (at_row s u n scope far)) far (looks_left (shown_look s (rights_of g) u cs n) columns (fields_used fs) (with_first u cs fs n far (at_row s u n scope far)) (shown s g d u far) (first_looks u cs fs n bound x scope far narrow))))
+          (λ far narrow. key_means u (shown_look s (rights_of g) u cs n) columns key (with_first u cs fs n far (at_row s u n scope far)) far
+          (looks_left (shown_look s (rights_of g) u cs n) columns (fields_used fs) (with_first u cs fs n far (at_row s u n scope far))
+          (shown s g d u far) (first_looks u cs fs n bound x scope far narrow))))
       field_extends (aggregate o a ps) t p n lt bound few =
           let u : ℕ = origin_table o s t in
           let x = parts_extend ps o t p a (n + 1) (omega arith) (omega arith) few.0 few.1 in

@@ -15,7 +15,7 @@ use Rattle.hq_translation.specs.Fine.{Has, kind_of, kinds_of, compared_kind}
 use Rattle.hq_translation.proofs.CatalogTables.{FineTable}
 use Rattle.hq_translation.specs.Looks.{Look, name_of, shown_form, compared_form, tested_form, own_look, is_used}
 use Rattle.hq_translation.specs.Names.{table_alias, fold_alias, join_alias}
-use Rattle.hq_translation.specs.Rights.{Rights}
+use Rattle.hq_translation.specs.GrantedTables.{GrantedTables}
 use Rattle.hq_translation.proofs.Names.{same_text, later_differs, Differ, used_left, used_right}
 
 -- the alias is none of number n or above
@@ -81,7 +81,8 @@ column_kind (n ∷ columns) (suc c) d lt = rw (d.0 c) (column_kind columns c d.1
 abbrev pub with_table : Schema → List Table → (u n : ℕ) → Aliases → Aliases
 with_table s tables u n scope = (table_alias n, table_names tables (table s u).schema (table s u).name) ∷ scope
 
-pub knows_here : (s : Schema) (g : Rights) (tables : List Table) (u n : ℕ) (scope : Aliases) → FineTable s g tables u → KnowsAll s (with_table s tables u n scope) u (own_look (table s u).columns n)
+pub knows_here : (s : Schema) (g : GrantedTables) (tables : List Table) (u n : ℕ) (scope : Aliases)
+    → FineTable s g tables u → KnowsAll s (with_table s tables u n scope) u (own_look (table s u).columns n)
 knows_here s g tables u n scope ok c has = rw (same_text (table_alias n), ok.names) (column_kind (table s u).columns c ok.differ has)
 
 pub grows_table : (n : ℕ) (names : Names) (scope : Aliases) → n < 2 ^ 64 → Grows n scope ((table_alias n, names) ∷ scope)

@@ -16,7 +16,7 @@ use Rattle.hq_model.specs.Seen.{row_cell, table_rows}
 use Rattle.hq_model.specs.declared.table.Table.{Table}
 use Rattle.hq_sql_tree.specs.Tree.{ExprTree, JoinTree, joins_of, PredTree}
 use Rattle.hq_sql_tree.specs.Meaning.{Scope, World, value, or_null_row, order_cmp, outputs, rows_of, joined, truth_at}
-use Rattle.hq_translation.specs.Rights.{rights_of}
+use Rattle.hq_translation.specs.GrantedTables.{rights_of}
 use Rattle.hq_translation.specs.Names.{table_alias}
 use Rattle.hq_translation.specs.Conditions.{with_member, where_of}
 use Rattle.hq_translation.specs.Masks.{value_output, filter_numbers, filter_predicate}

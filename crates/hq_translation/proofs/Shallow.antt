@@ -34,7 +34,7 @@ use Rattle.hq_sql_tree.specs.Tree.{ExprTree, AggTree, PairTree, OrderTree, OutTr
 use Rattle.hq_sql_tree.specs.Form.{greatest, arity_parens, expr_depth, pairs_depth, orders_depth, distinct_depth, select_depth, from_depth, joins_depth, filter_depth, pred_depth, preds_depth}
 use Rattle.hq_translation.specs.Names.{table_alias, value_name, unit_name}
 use Rattle.hq_translation.specs.Looks.{Look, tested_form, type_in, is_used, own_look, cell_at}
-use Rattle.hq_translation.specs.Rights.{Rights}
+use Rattle.hq_translation.specs.GrantedTables.{GrantedTables}
 use Rattle.hq_translation.proofs.TextLiterals.{of_either}
 use Rattle.hq_translation.specs.Conditions.{literal, operand_literal, joined_by_and, joined_by_or, with_member, where_of, negation_if, first_literal, literals_for, test_of}
 use Rattle.hq_translation.specs.Predicates.{link_members, link, Mode, columns_in, guard_from, inner_from, numbers, predicate, predicates, filter_mode, own_numbers, own_predicate}
@@ -264,11 +264,11 @@ distinct_low : (columns : List Column) (look : Look) (cs : List ℕ) → distinc
 distinct_low columns look [] = omega arith
 distinct_low columns look (c ∷ cs) = rw (distinct_flat columns look cs) (omega arith)
 
-orders_flat : (ks : List Sort) (s : Schema) (g : Rights) (look : Look) (t p n : ℕ) → greatest (map (λ k. expr_depth k.value) (orders ks s g look t p n)) ≡ 0
+orders_flat : (ks : List Sort) (s : Schema) (g : GrantedTables) (look : Look) (t p n : ℕ) → greatest (map (λ k. expr_depth k.value) (orders ks s g look t p n)) ≡ 0
 orders_flat [] s g look t p n = refl
 orders_flat (k ∷ ks) s g look t p n = rw (orders_flat ks s g look t p (n + sort_numbers k.key.through s g t k.key.column)) refl
 
-outputs_flat : (ks : List Sort) (s : Schema) (g : Rights) (look : Look) (t p n i : ℕ) → greatest (map (λ o. expr_depth o.value) (key_outputs ks s g look t p n i)) ≡ 0
+outputs_flat : (ks : List Sort) (s : Schema) (g : GrantedTables) (look : Look) (t p n i : ℕ) → greatest (map (λ o. expr_depth o.value) (key_outputs ks s g look t p n i)) ≡ 0
 outputs_flat [] s g look t p n i = refl
 outputs_flat (k ∷ ks) s g look t p n i = rw (outputs_flat ks s g look t p (n + sort_numbers k.key.through s g t k.key.column) (i + 1)) refl
 
@@ -286,7 +286,7 @@ field_flat (by_key u key fs) columns look n = refl
 field_flat (aggregate o a ps) columns look n = refl
 field_flat (introspect f) columns look n = refl
 
-fields_flat : (fs : FieldTrees) (s : Schema) (g : Rights) (look : Look) (t n : ℕ) → pairs_depth (pairs_of (fields_values fs s g look t n)) ≡ 0
+fields_flat : (fs : FieldTrees) (s : Schema) (g : GrantedTables) (look : Look) (t n : ℕ) → pairs_depth (pairs_of (fields_values fs s g look t n)) ≡ 0
 fields_flat no_field s g look t n = refl
 fields_flat (field key f fs) s g look t n = rw (field_flat f (table s t).columns look n, fields_flat fs s g look t (n + field_numbers f s g t)) refl
 
@@ -295,7 +295,7 @@ part_flat (summary fs) n = refl
 part_flat (nodes fs) n = refl
 part_flat (part_typename name) n = refl
 
-parts_flat : (ps : PartTrees) (s : Schema) (g : Rights) (u : ℕ) (a : ListArguments) (n : ℕ) → pairs_depth (pairs_of (parts_values ps s g u a n)) ≡ 0
+parts_flat : (ps : PartTrees) (s : Schema) (g : GrantedTables) (u : ℕ) (a : ListArguments) (n : ℕ) → pairs_depth (pairs_of (parts_values ps s g u a n)) ≡ 0
 parts_flat no_part s g u a n = refl
 parts_flat (part key p ps) s g u a n = rw (part_flat p n, parts_flat ps s g u a (n + part_numbers p s g u a)) refl
 
@@ -363,7 +363,7 @@ each_used used F (m ∷ ms) h =
     let go : (b : Bool) → Each (λ m. depth m.shown ≤ F) (cond b (m ∷ filter used ms) (filter used ms)) = elim [ true ↦ (h.0, each_used used F ms h.1) | false ↦ each_used used F ms h.1 ] in
     go (used m)
 
-module _ (s : Schema) (g : Rights) (F : ℕ) (low : LowRights g F) where
+module _ (s : Schema) (g : GrantedTables) (F : ℕ) (low : LowRights g F) where
   used_low : (t : ℕ) (cs : List ℕ) (p n : ℕ) → LowJoins (2 * F + 3) (mask_joins (used_masks g t cs) s t p n)
   used_low t cs p n = masks_low (used_masks g t cs) s t p n F (each_used (λ m. is_used m.column cs) F (g.masks t) (low.1 t))
 
@@ -584,7 +584,7 @@ module _ (s : Schema) (g : Rights) (F : ℕ) (low : LowRights g F) where
       part_low (part_typename name) o k t p a n short h le = tt
 
 -- the statement
-pub is_shallow : (fs : FieldTrees) (s : Schema) (g : Rights) (F X C : ℕ) → IsShallow fs s g F X C
+pub is_shallow : (fs : FieldTrees) (s : Schema) (g : GrantedTables) (F X C : ℕ) → IsShallow fs s g F X C
 is_shallow fs s g F X C low short =
     let k : ℕ = 2 * fields_height fs + (2 * X + 2 * F + C + 6) in
     let z : 0 ≤ k = omega arith in

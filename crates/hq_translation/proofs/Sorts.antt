@@ -16,7 +16,7 @@ use Rattle.hq_model.specs.Selected.{SortKey, sort_cell as shown_cell, sorts_cmp 
 use Rattle.hq_model.specs.declared.table.Table.{Table}
 use Rattle.hq_sql_tree.specs.Tree.{orders_of}
 use Rattle.hq_sql_tree.specs.Meaning.{NamedRow, cell_named, Scope, with_alias, World, outputs, order_cmp, orders_cmp}
-use Rattle.hq_translation.specs.Rights.{rights_of}
+use Rattle.hq_translation.specs.GrantedTables.{rights_of}
 use Rattle.hq_translation.specs.Names.{fold_alias, join_alias, value_name, key_name}
 use Rattle.hq_translation.specs.Looks.{Look, cell_at}
 use Rattle.hq_translation.specs.Predicates.{link}
@@ -146,7 +146,8 @@ module _ (s : Schema) (g : Grants) (d : List (List Row)) where
         (shown s g d u far)
         (looks_at s tables d sound g u n cs (at_row s u n scope far) far (omega arith) (shows_row s scope u n far (sound.differ u) narrow)))
         (λ q qs some. refl))
-        (λ far narrow. link_means s w t (rel s t r) p n _ row far (behind_above s tables d sound u n _ _ _ _ all scope far t p row lt (omega arith) shows) (behind_shows s tables d sound u n _ _ _ _ all scope far narrow)))
+        (λ far narrow. link_means s w t (rel s t r) p n _ row far (behind_above s tables d sound u n _ _ _ _ all scope far t p row lt (omega arith) shows)
+        (behind_shows s tables d sound u n _ _ _ _ all scope far narrow)))
 
     pub sorts_extend : (ks : List Sort) (t p n : ℕ) → p < n → n + sorts_numbers ks s (rights_of g) t ≤ 2 ^ 64
         → Extends s w (sorts_joins ks s (rights_of g) t p n) t p n (sorts_numbers ks s (rights_of g) t) (with_sorts ks t n)

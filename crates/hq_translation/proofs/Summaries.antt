@@ -24,7 +24,7 @@ use Rattle.hq_request_tree.specs.declared.aggregate.KeyedAggCol.{KeyedAggCol}
 use Rattle.hq_request_tree.specs.declared.aggregate.KeyedAggField.{KeyedAggField}
 use Rattle.hq_sql_tree.specs.Tree.{OutTree, pairs_of, PredTree}
 use Rattle.hq_sql_tree.specs.Meaning.{NamedRow, cell_named, Scope, with_alias, World, value, members, outputs, rows_of, truth_at}
-use Rattle.hq_translation.specs.Rights.{rights_of}
+use Rattle.hq_translation.specs.GrantedTables.{rights_of}
 use Rattle.hq_translation.specs.Names.{fold_alias, value_name, needed_name}
 use Rattle.hq_translation.specs.Looks.{Look, is_used, add_new}
 use Rattle.hq_translation.specs.Lists.{children_from, list_numbers}

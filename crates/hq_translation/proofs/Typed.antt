@@ -20,7 +20,7 @@ use Rattle.hq_sql_tree.specs.WellFormed as well
 use Rattle.hq_sql_tree.specs.WellFormed.{Aliases, Kind, kind, kind_at, kind_named, pair_names, is_value, is_member, are_values, is_compared, is_item, is_typed, select_names, is_typed_pred}
 use Rattle.hq_translation.specs.Names.{table_alias, join_alias, value_name}
 use Rattle.hq_translation.specs.Looks.{Look, own_look, cell_at, shown_at, compared_at}
-use Rattle.hq_translation.specs.Rights.{Rights}
+use Rattle.hq_translation.specs.GrantedTables.{GrantedTables}
 use Rattle.hq_translation.specs.Conditions.{joined_by_and}
 use Rattle.hq_translation.specs.Predicates.{columns_in, link}
 use Rattle.hq_translation.specs.Masks.{value_place, extra, masks, shown_look, filter_predicate}
@@ -42,15 +42,15 @@ use Rattle.hq_translation.proofs.TypedSummaries.{summary_typed}
 abbrev with_one : (n : ℕ) → Aliases → Aliases
 with_one n scope = (table_alias n, (codes "u", Some well.truth) ∷ []) ∷ scope
 
-names_of : (fs : FieldTrees) (s : Schema) (g : Rights) (look : Look) (t n : ℕ) → pair_names (pairs_of (fields_values fs s g look t n)) ≡ keys_of fs
+names_of : (fs : FieldTrees) (s : Schema) (g : GrantedTables) (look : Look) (t n : ℕ) → pair_names (pairs_of (fields_values fs s g look t n)) ≡ keys_of fs
 names_of no_field s g look t n = refl
 names_of (field k f fs) s g look t n = ap (λ l. k ∷ l) (names_of fs s g look t (n + field_numbers f s g t))
 
-part_names_of : (ps : PartTrees) (s : Schema) (g : Rights) (u : ℕ) (a : ListArguments) (n : ℕ) → pair_names (pairs_of (parts_values ps s g u a n)) ≡ part_keys ps
+part_names_of : (ps : PartTrees) (s : Schema) (g : GrantedTables) (u : ℕ) (a : ListArguments) (n : ℕ) → pair_names (pairs_of (parts_values ps s g u a n)) ≡ part_keys ps
 part_names_of no_part s g u a n = refl
 part_names_of (part k p ps) s g u a n = ap (λ l. k ∷ l) (part_names_of ps s g u a (n + part_numbers p s g u a))
 
-module _ (s : Schema) (g : Rights) (tables : List Table) (ok : FineTables s g tables) where
+module _ (s : Schema) (g : GrantedTables) (tables : List Table) (ok : FineTables s g tables) where
   known_of : (o : Origin) (t : ℕ) → FineOrigin o s t → Known s (origin_table o s t)
   known_of (from_table u) t f = f
   known_of (along r) t f = f.0
@@ -287,7 +287,7 @@ beyond : (s : List SchemaTable) → slice_index_or s (length s) no_table ≡ no_
 beyond [] = refl
 beyond (t ∷ ts) = beyond ts
 
-pub statement_typed : (fs : FieldTrees) (tables : List Table) (meta : MetaTree) (g : Rights) → IsTyped fs tables meta g
+pub statement_typed : (fs : FieldTrees) (tables : List Table) (meta : MetaTree) (g : GrantedTables) → IsTyped fs tables meta g
 statement_typed fs tables meta g catalog rights fine apart bound =
     let s : Schema = schema_of tables meta in
     let ok = fine_tables tables meta g catalog rights in

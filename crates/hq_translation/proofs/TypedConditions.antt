@@ -24,8 +24,8 @@ use Rattle.hq_sql_tree.specs.Tree as tree
 use Rattle.hq_sql_tree.specs.Tree.{ExprTree, OrderTree, OutTree, SelectTree, JoinTree, JoinTrees, FilterTree, PredTree, preds_of, joins_of}
 use Rattle.hq_sql_tree.specs.WellFormed.{Aliases, Kind, kind_of_type, kind, kind_at, kind_named, compare_kinds, is_value, is_compared, is_item, is_tested, is_operand, is_typed_test, begin_with, are_parts, is_typed, are_typed_joins, joined_scope, select_names, is_typed_filter, is_typed_pred, are_typed_preds}
 use Rattle.hq_translation.specs.Names.{table_alias, join_alias, value_name, unit_name}
-use Rattle.hq_translation.specs.Looks.{Look, Place, own_look, compared_at, tested_form, tested_at}
-use Rattle.hq_translation.specs.Rights.{Rights}
+use Rattle.hq_translation.specs.Looks.{Look, ColumnName, own_look, compared_at, tested_form, tested_at}
+use Rattle.hq_translation.specs.GrantedTables.{GrantedTables}
 use Rattle.hq_translation.specs.Conditions.{operand_literal, joined_by_and, joined_by_or, with_member, where_of, negation_if, literals_for, test_of}
 use Rattle.hq_translation.specs.Predicates.{link_members, link, Mode, columns_in, columns_in_all, guard_from, inner_from, numbers, numbers_all, predicate, predicates, filter_mode, own_numbers, own_predicate}
 use Rattle.hq_translation.specs.Fine.{type_of, kind_of, compared_kind, compared_kind_of, Known, column_alone, TestFits, FinePair, FineBexp, FineBexps}
@@ -231,14 +231,14 @@ typed_last tables scope n m J V j = ap (λ l. are_typed_joins (joins_of l) table
 pub joined_last : (tables : List Table) (scope : Aliases) (n m : ℕ) (J : List JoinTree) (V : Aliases → Type 0) → (j : Joined tables scope n m J V) → joined_scope (joins_of J) tables scope ≡ j.after
 joined_last tables scope n m J V j = ap (λ l. joined_scope (joins_of l) tables scope) (sym (append-nil J)) ∙ j.joined []
 
-module _ (s : Schema) (g : Rights) (tables : List Table) (ok : FineTables s g tables) where
+module _ (s : Schema) (g : GrantedTables) (tables : List Table) (ok : FineTables s g tables) where
   -- ---- columns at their places
 
-  pub compared_typed : (scope : Aliases) (t : ℕ) (place : Place) (c : ℕ) → kind_at scope place.alias place.name ≡ Some (kind_of s t c)
+  pub compared_typed : (scope : Aliases) (t : ℕ) (place : ColumnName) (c : ℕ) → kind_at scope place.alias place.name ≡ Some (kind_of s t c)
       → is_compared scope (compared_at (table s t).columns place c) ≡ true
   compared_typed scope t place c k = compared_of scope place.alias place.name (slice_index_or (table s t).columns c no_column).ty k
 
-  column_compared : (scope : Aliases) (t : ℕ) (place : Place) (c : ℕ) → kind_at scope place.alias place.name ≡ Some (kind_of s t c)
+  column_compared : (scope : Aliases) (t : ℕ) (place : ColumnName) (c : ℕ) → kind_at scope place.alias place.name ≡ Some (kind_of s t c)
       → kind scope (compared_at (table s t).columns place c) ≡ Some (compared_kind_of s t c)
   column_compared scope t place c k = kind_compared scope place.alias place.name (type_of s t c) k
 

@@ -11,7 +11,7 @@ use Rattle.std.specs.Prelude.{codes}
 use Rattle.hq_sql_tree.specs.WellFormed.{truth, Aliases, Kind, kind, kind_at, kind_named, is_value, is_compared, is_typed, select_names, is_typed_filter, is_typed_pred}
 use Rattle.hq_translation.specs.Names.{table_alias, join_alias, value_name}
 use Rattle.hq_translation.specs.Looks.{Look, is_used, own_look, cell_at, compared_at}
-use Rattle.hq_translation.specs.Rights.{Rights}
+use Rattle.hq_translation.specs.GrantedTables.{GrantedTables}
 use Rattle.hq_translation.specs.Conditions.{with_member, where_of}
 use Rattle.hq_translation.specs.Predicates.{link, columns_in, predicate, own_numbers, own_predicate}
 use Rattle.hq_translation.specs.Masks.{value_place, value_output, mask_numbers, mask_select, mask_joins, mask_look, used_masks, extra, masks, shown_look, filter_numbers, filter_predicate, where_mode}
@@ -35,7 +35,7 @@ each_used P used (m ∷ ms) h =
     let go : (b : Bool) → Each P (cond b (m ∷ filter used ms) (filter used ms)) = elim [ true ↦ (h.0, each_used P used ms h.1) | false ↦ each_used P used ms h.1 ] in
     go (used m)
 
-module _ (s : Schema) (g : Rights) (tables : List Table) (ok : FineTables s g tables) where
+module _ (s : Schema) (g : GrantedTables) (tables : List Table) (ok : FineTables s g tables) where
   -- ---- masks
 
   -- the join of a mask

@@ -13,8 +13,8 @@ use Rattle.hq_sql_tree.specs.WellFormed as well
 use Rattle.hq_sql_tree.specs.WellFormed.{Aliases, Names, Kind, kind_of_type, kind, kind_at, kind_named, pair_names, is_value, are_values, is_compared, are_keys, is_typed, select_names, out_names, joined_scope, are_typed_joins, is_typed_pred, same_expr, is_among, begin_with}
 use Rattle.hq_sql_tree.proofs.Columns.{form_same}
 use Rattle.hq_translation.specs.Names.{fold_alias, value_name, key_name}
-use Rattle.hq_translation.specs.Looks.{Look, Place, type_in, compared_form, is_used, own_look, cell_at, compared_at}
-use Rattle.hq_translation.specs.Rights.{Rights}
+use Rattle.hq_translation.specs.Looks.{Look, ColumnName, type_in, compared_form, is_used, own_look, cell_at, compared_at}
+use Rattle.hq_translation.specs.GrantedTables.{GrantedTables}
 use Rattle.hq_translation.specs.Conditions.{with_member, where_of}
 use Rattle.hq_translation.specs.Predicates.{columns_in, predicate}
 use Rattle.hq_translation.specs.Masks.{extra, masks, shown_look, filter_predicate, where_mode}
@@ -31,17 +31,17 @@ use Rattle.hq_translation.proofs.TypedJoins.{First, filter_typed, wanted_typed, 
 
 -- ---- names of sort keys
 
-no_value : (ks : List Sort) (s : Schema) (g : Rights) (look : Look) (t p n i : ℕ) → list_any (bytes_eq value_name) (map (λ o. o.name) (key_outputs ks s g look t p n i)) ≡ false
+no_value : (ks : List Sort) (s : Schema) (g : GrantedTables) (look : Look) (t p n i : ℕ) → list_any (bytes_eq value_name) (map (λ o. o.name) (key_outputs ks s g look t p n i)) ≡ false
 no_value [] s g look t p n i = refl
 no_value (k ∷ ks) s g look t p n i = rw (value_is_no_key i, no_value ks s g look t p (n + sort_numbers k.key.through s g t k.key.column) (i + 1)) refl
 
-no_later : (j : ℕ) (ks : List Sort) (s : Schema) (g : Rights) (look : Look) (t p n i : ℕ) → j < i → i + length ks ≤ 2 ^ 64
+no_later : (j : ℕ) (ks : List Sort) (s : Schema) (g : GrantedTables) (look : Look) (t p n i : ℕ) → j < i → i + length ks ≤ 2 ^ 64
     → list_any (bytes_eq (key_name j)) (map (λ o. o.name) (key_outputs ks s g look t p n i)) ≡ false
 no_later j [] s g look t p n i lt few = refl
 no_later j (k ∷ ks) s g look t p n i lt few =
     rw (key_names_differ j i lt (omega arith), no_later j ks s g look t p (n + sort_numbers k.key.through s g t k.key.column) (i + 1) (omega arith) (omega arith)) refl
 
-keys_differ : (ks : List Sort) (s : Schema) (g : Rights) (look : Look) (t p n i : ℕ) → i + length ks ≤ 2 ^ 64 → all_differ bytes_eq (map (λ o. o.name) (key_outputs ks s g look t p n i)) ≡ true
+keys_differ : (ks : List Sort) (s : Schema) (g : GrantedTables) (look : Look) (t p n i : ℕ) → i + length ks ≤ 2 ^ 64 → all_differ bytes_eq (map (λ o. o.name) (key_outputs ks s g look t p n i)) ≡ true
 keys_differ [] s g look t p n i few = refl
 keys_differ (k ∷ ks) s g look t p n i few =
     let next : ℕ = n + sort_numbers k.key.through s g t k.key.column in
@@ -82,7 +82,7 @@ begin_now : (distinct front : List ExprTree) (keys : List OrderTree) → list_al
 begin_now distinct front [] h = h
 begin_now distinct front (k ∷ ks) h = rw h refl
 
-module _ (s : Schema) (g : Rights) (look : Look) (t p : ℕ) where
+module _ (s : Schema) (g : GrantedTables) (look : Look) (t p : ℕ) where
   begins : (distinct front : List ℕ) (ks : List SortKey) (rest : List Sort) (n : ℕ) → begin_columns distinct front ks ≡ true
       → begin_with (distinct_columns (table s t).columns look distinct) (distinct_columns (table s t).columns look front) (orders (shown_sorts ks rest) s g look t p n) ≡ true
   begins distinct front [] rest n h =
@@ -154,7 +154,7 @@ chains : (s : Schema) (t : ℕ) (ks : List Sort) → Each (FineSort s t) ks → 
 chains s t [] h = tt
 chains s t (k ∷ ks) h = (h.0.0, chains s t ks h.1)
 
-module _ (s : Schema) (g : Rights) (tables : List Table) (ok : FineTables s g tables) where
+module _ (s : Schema) (g : GrantedTables) (tables : List Table) (ok : FineTables s g tables) where
   -- the place of each sort key shows a cell of its column's kind
   abbrev KeyKinds : List Sort → Look → (t p n : ℕ) → Aliases → Type 0
   KeyKinds [] look t p n final = Unit {0}
@@ -185,7 +185,7 @@ module _ (s : Schema) (g : Rights) (tables : List Table) (ok : FineTables s g ta
   outputs_typed : (ks : List Sort) (look : Look) (t p n i : ℕ) (final : Aliases) → KeyKinds ks look t p n final → list_all (λ o. is_value final o.value) (key_outputs ks s g look t p n i) ≡ true
   outputs_typed [] look t p n i final h = refl
   outputs_typed (k ∷ ks) look t p n i final h =
-      let place : Place = sort_place k.own k.key.through s look t p n k.key.column in
+      let place : ColumnName = sort_place k.own k.key.through s look t p n k.key.column in
       let next : ℕ = n + sort_numbers k.key.through s g t k.key.column in
       two (is_value final (cell_at place)) (list_all (λ o. is_value final o.value) (key_outputs ks s g look t p next (i + 1)))
       (value_of final place.alias place.name (kind_of s (end_of k.key.through s t) k.key.column) h.0) (outputs_typed ks look t p next (i + 1) final h.1)
@@ -193,7 +193,7 @@ module _ (s : Schema) (g : Rights) (tables : List Table) (ok : FineTables s g ta
   orders_typed : (ks : List Sort) (look : Look) (t p n : ℕ) (final : Aliases) → KeyKinds ks look t p n final → list_all (λ k. is_compared final k.value) (orders ks s g look t p n) ≡ true
   orders_typed [] look t p n final h = refl
   orders_typed (k ∷ ks) look t p n final h =
-      let place : Place = sort_place k.own k.key.through s look t p n k.key.column in
+      let place : ColumnName = sort_place k.own k.key.through s look t p n k.key.column in
       let next : ℕ = n + sort_numbers k.key.through s g t k.key.column in
       two (is_compared final (tree.column place.alias place.name (sort_form s t k.key))) (list_all (λ k. is_compared final k.value) (orders ks s g look t p next))
       (compared_of final place.alias place.name (slice_index_or (table s (end_of k.key.through s t)).columns k.key.column no_column).ty h.0) (orders_typed ks look t p next final h.1)
@@ -205,7 +205,7 @@ module _ (s : Schema) (g : Rights) (tables : List Table) (ok : FineTables s g ta
       → are_keys outer (orders_of (output_orders ks s t m i)) ≡ true
   keys_behind [] look t p n m i final outer all names h few left = refl
   keys_behind (x ∷ ks) look t p n m i final outer all names h few left =
-      let place : Place = sort_place x.own x.key.through s look t p n x.key.column in
+      let place : ColumnName = sort_place x.own x.key.through s look t p n x.key.column in
       let next : ℕ = n + sort_numbers x.key.through s g t x.key.column in
       let kd : Kind = kind_of s (end_of x.key.through s t) x.key.column in
       let here : kind_named (out_names final (key_outputs (x ∷ ks) s g look t p n i)) (key_name i) ≡ kind_at final place.alias place.name = rw (same_text (key_name i)) refl in

@@ -26,7 +26,7 @@ use Rattle.hq_sql_tree.specs.WellFormed.{Aliases, Names, Kind, kind_of_type, kin
 use Rattle.hq_sql_tree.specs.WellFormed.{is_taken}
 use Rattle.hq_translation.specs.Names.{table_alias, fold_alias, value_name, needed_name}
 use Rattle.hq_translation.specs.Looks.{Look, is_used, compared_form, cell_at}
-use Rattle.hq_translation.specs.Rights.{Rights}
+use Rattle.hq_translation.specs.GrantedTables.{GrantedTables}
 use Rattle.hq_translation.specs.Masks.{shown_look}
 use Rattle.hq_translation.specs.Sorts.{used_sorts}
 use Rattle.hq_translation.specs.Predicates.{columns_in}
@@ -220,7 +220,7 @@ module _ (s : Schema) (u n : ℕ) (cs : List ℕ) (behind : Aliases)
 
 -- ---- the selects
 
-module _ (s : Schema) (g : Rights) (tables : List Table) (ok : FineTables s g tables) where
+module _ (s : Schema) (g : GrantedTables) (tables : List Table) (ok : FineTables s g tables) where
   folded_typed : (scope : Aliases) (u n : ℕ) (fs : List KeyedAggField) (a : ListArguments) (tie : PredTree) → Known s u
       → FineArguments s u a → FineSummaries s u fs → n + list_numbers s g u (summary_used s u a fs) a ≤ 2 ^ 64
       → ((final : Aliases) → Behind s g tables ok scope u n (summary_used s u a fs) final → is_typed_pred tie tables final ≡ true)

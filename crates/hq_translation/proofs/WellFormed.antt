@@ -10,7 +10,7 @@ use Rattle.hq_request_tree.specs.Resolve.{origin_table}
 use Rattle.hq_sql_tree.specs.Form.{select_depth}
 use Rattle.hq_sql_tree.specs.WellFormed.{is_statement_form}
 use Rattle.hq_translation.specs.Names.{value_name}
-use Rattle.hq_translation.specs.Rights.{Rights}
+use Rattle.hq_translation.specs.GrantedTables.{GrantedTables}
 use Rattle.hq_translation.specs.Statement.{statement}
 use Rattle.hq_translation.specs.Correct.{HasKey, AreKeyed, IsKeyed, AreKeyedParts, IsKeyedPart}
 use Rattle.hq_translation.specs.Fine.{FineOrigin, FineFields, FineField, FineParts, FinePart}
@@ -22,7 +22,7 @@ use Rattle.hq_translation.proofs.Shallow.{is_shallow}
 use Rattle.hq_translation.proofs.Typed.{statement_typed}
 
 -- each list is one of a table that has a key
-module _ (s : Schema) (g : Rights) (tables : List Table) (ok : FineTables s g tables) where
+module _ (s : Schema) (g : GrantedTables) (tables : List Table) (ok : FineTables s g tables) where
   origin_keyed : (o : Origin) (t : ℕ) → FineOrigin o s t → HasKey s (origin_table o s t)
   origin_keyed (from_table u) t f = (ok u f).keyed
   origin_keyed (along r) t f = (ok (rel s t r).remote f.0).keyed
@@ -52,11 +52,11 @@ module _ (s : Schema) (g : Rights) (tables : List Table) (ok : FineTables s g ta
     part_keyed (part_typename name) u h f = tt
 
 -- one row whose one output is an object
-has_form : (fs : FieldTrees) (s : Schema) (g : Rights) → is_statement_form (statement fs s g) ≡ true
+has_form : (fs : FieldTrees) (s : Schema) (g : GrantedTables) → is_statement_form (statement fs s g) ≡ true
 unfolding value_name
 has_form fs s g = refl
 
-pub is_well_formed : (fs : FieldTrees) (tables : List Table) (meta : MetaTree) (g : Rights) (F X C : ℕ) → IsWellFormed fs tables meta g F X C
+pub is_well_formed : (fs : FieldTrees) (tables : List Table) (meta : MetaTree) (g : GrantedTables) (F X C : ℕ) → IsWellFormed fs tables meta g F X C
 is_well_formed fs tables meta g F X C catalog rights fine apart bound low short few fits =
     let s : Schema = schema_of tables meta in
     let keyed = fields_keyed s g tables (fine_tables tables meta g catalog rights) fs (length s) fine in

@@ -14,7 +14,7 @@ use Rattle.hq_model.specs.declared.test.Test.TheVariants.{Compare}
 use Rattle.hq_request_tree.specs.Fields.{FieldTrees, no_field, field, column, list, from_table}
 use Rattle.hq_sql_tree.specs.Spelling.{select_text, quoted}
 use Rattle.hq_sql_tree.specs.Word.{word_text}
-use Rattle.hq_translation.specs.Rights.{rights_of}
+use Rattle.hq_translation.specs.GrantedTables.{rights_of}
 use Rattle.hq_translation.specs.Names.{table_alias, fold_alias, join_alias, value_name, key_name, needed_name, unit_name}
 use Rattle.hq_translation.specs.Statement.{statement}
 

@@ -2,7 +2,7 @@
 use Rattle.std.specs.Prelude.{ℕ, ◌+◌, List, [], ◌∷◌, Bool, true, false, cond, ◌&&◌, ◌||◌, ◌==◌, Option, Some, None}
 use Rattle.hq_base.specs.declared.aggregate.Aggregate.{Aggregate}
 use Rattle.hq_base.specs.declared.value.Ty.{Ty}
-use Rattle.hq_translation.specs.Rights.{Rights}
+use Rattle.hq_translation.specs.GrantedTables.{GrantedTables}
 use Rattle.hq_model.specs.Schema.{Schema, table}
 use Rattle.hq_model.specs.Selected.{ListArguments}
 use Rattle.hq_model.specs.declared.table.Column.{Column}
@@ -118,11 +118,11 @@ abbrev pub summary_used : Schema → (t : ℕ) → ListArguments → List KeyedA
 summary_used s t a fs = list_used s t a (needed fs [])
 
 -- how many numbers an aggregate takes
-abbrev pub summary_numbers : List KeyedAggField → Schema → Rights → (t : ℕ) → ListArguments → ℕ
+abbrev pub summary_numbers : List KeyedAggField → Schema → GrantedTables → (t : ℕ) → ListArguments → ℕ
 summary_numbers fs s g t a = cond (some_aggregate fs) (list_numbers s g t (summary_used s t a fs) a) 1
 
 -- over the selected rows without the permission's limit
-abbrev pub folded_select : List KeyedAggField → Schema → Rights → (t : ℕ) → ListArguments → (n : ℕ) → (tie : PredTree) → SelectTree
+abbrev pub folded_select : List KeyedAggField → Schema → GrantedTables → (t : ℕ) → ListArguments → (n : ℕ) → (tie : PredTree) → SelectTree
 folded_select fs s g t a n tie =
     tree.fold (record { value = tree.object (pairs_of (summary_pairs (table s t).columns n (needed fs []) fs)); name = value_name })
     (list_rows s g t (summary_used s t a fs) a n tie a.limit (needed_outputs (shown_look s g t (summary_used s t a fs) n) (needed fs [])) []) (fold_alias n)
@@ -132,5 +132,5 @@ abbrev pub plain_select : List KeyedAggField → Schema → (t n : ℕ) → Sele
 plain_select fs s t n =
     tree.rows [] (value_output (tree.object (pairs_of (summary_pairs (table s t).columns n (needed fs []) fs)))) (tree.one (table_alias n)) tree.no_join tree.no_filter [] None None
 
-abbrev pub summary_select : List KeyedAggField → Schema → Rights → (t : ℕ) → ListArguments → (n : ℕ) → (tie : PredTree) → SelectTree
+abbrev pub summary_select : List KeyedAggField → Schema → GrantedTables → (t : ℕ) → ListArguments → (n : ℕ) → (tie : PredTree) → SelectTree
 summary_select fs s g t a n tie = cond (some_aggregate fs) (folded_select fs s g t a n tie) (plain_select fs s t n)

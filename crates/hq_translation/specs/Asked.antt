@@ -19,11 +19,11 @@ use Rattle.hq_sql_tree.specs.Tree.{SelectTree}
 use Rattle.hq_sql_tree.specs.WellFormed.{is_statement}
 use Rattle.hq_translation.specs.Correct.{AreFew}
 use Rattle.hq_translation.specs.Fields.{fields_numbers}
-use Rattle.hq_translation.specs.Rights.{Rights, rights_of}
+use Rattle.hq_translation.specs.GrantedTables.{GrantedTables, rights_of}
 use Rattle.hq_translation.specs.Statement.{statement}
 
 -- what a request grants
-abbrev pub asked_rights : List Table → MetaTree → AskTree → Rights
+abbrev pub asked_rights : List Table → MetaTree → AskTree → GrantedTables
 asked_rights tables m a = rights_of (grants_in a m (schema_of tables m))
 
 -- its statement, and how many numbers this takes

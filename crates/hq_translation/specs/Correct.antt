@@ -12,7 +12,7 @@ use Rattle.hq_sql_tree.specs.Form.{is_select}
 use Rattle.hq_sql_tree.specs.Meaning.{meaning}
 use Rattle.hq_sql_tree.specs.WellFormed.{aliases_in}
 use Rattle.hq_base.specs.Lists.{all_differ}
-use Rattle.hq_translation.specs.Rights.{Rights, rights_of}
+use Rattle.hq_translation.specs.GrantedTables.{GrantedTables, rights_of}
 use Rattle.hq_translation.specs.Lists.{list_sorts}
 use Rattle.hq_translation.specs.Aggregates.{needed}
 use Rattle.hq_translation.specs.Fields.{fields_numbers}
@@ -51,7 +51,7 @@ MeansResolved fs tables meta g d =
     meaning (statement fs s (rights_of g)) (record { tables = tables; database = d }) ≡ resolved fs s g d
 
 -- No two things of the statement that have an alias have the same one.
-abbrev pub AliasesDiffer : FieldTrees → Schema → Rights → Type 0
+abbrev pub AliasesDiffer : FieldTrees → Schema → GrantedTables → Type 0
 AliasesDiffer fs s g = 1 + fields_numbers fs s g (length s) ≤ 2 ^ 64 → all_differ bytes_eq (aliases_in (statement fs s g) []) ≡ true
 
 -- each list is one of a table that has a key
@@ -83,5 +83,5 @@ abbrev mutual
   IsKeyedPart (part_typename name) s u = Unit {0}
 
 -- The statement is a tree of SQL's grammar.
-abbrev pub IsGrammatical : FieldTrees → Schema → Rights → Type 0
+abbrev pub IsGrammatical : FieldTrees → Schema → GrantedTables → Type 0
 IsGrammatical fs s g = AreKeyed fs s (length s) → is_select (statement fs s g) ≡ true

@@ -1,7 +1,7 @@
 -- The fields of a typed request: for each its numbers, its value at a row, and the lateral join that gives the value.
 use Rattle.std.specs.Prelude.{ℕ, ◌+◌, List, [], ◌∷◌, ◌++◌, None}
 use Rattle.hq_base.specs.declared.value.Val.{Val}
-use Rattle.hq_translation.specs.Rights.{Rights}
+use Rattle.hq_translation.specs.GrantedTables.{GrantedTables}
 use Rattle.hq_model.specs.Schema.{Schema, table, rel}
 use Rattle.hq_model.specs.Selected.{ListArguments}
 use Rattle.hq_model.specs.declared.test.Test.TheVariants.{Compare}
@@ -46,11 +46,11 @@ key_members columns look (c ∷ cs) (v ∷ vs) = tree.test (compared_at columns 
 
 -- how many numbers fields at a row of table t take, and those of an aggregate over a list of table u
 abbrev mutual
-  pub fields_numbers : FieldTrees → Schema → Rights → (t : ℕ) → ℕ
+  pub fields_numbers : FieldTrees → Schema → GrantedTables → (t : ℕ) → ℕ
   fields_numbers no_field s g t = 0
   fields_numbers (field key f fs) s g t = field_numbers f s g t + fields_numbers fs s g t
 
-  pub field_numbers : FieldTree → Schema → Rights → (t : ℕ) → ℕ
+  pub field_numbers : FieldTree → Schema → GrantedTables → (t : ℕ) → ℕ
   field_numbers (column c) s g t = 0
   field_numbers (typename name) s g t = 0
   field_numbers no_queries s g t = 1
@@ -62,11 +62,11 @@ abbrev mutual
   field_numbers (aggregate o a ps) s g t = 1 + parts_numbers ps s g (origin_table o s t) a
   field_numbers (introspect f) s g t = 1
 
-  pub parts_numbers : PartTrees → Schema → Rights → (u : ℕ) → ListArguments → ℕ
+  pub parts_numbers : PartTrees → Schema → GrantedTables → (u : ℕ) → ListArguments → ℕ
   parts_numbers no_part s g u a = 0
   parts_numbers (part key p ps) s g u a = part_numbers p s g u a + parts_numbers ps s g u a
 
-  pub part_numbers : PartTree → Schema → Rights → (u : ℕ) → ListArguments → ℕ
+  pub part_numbers : PartTree → Schema → GrantedTables → (u : ℕ) → ListArguments → ℕ
   part_numbers (summary fs) s g u a = summary_numbers fs s g u a
   part_numbers (nodes fs) s g u a = list_numbers s g u (list_used s u a (fields_used fs)) a + fields_numbers fs s g u
   part_numbers (part_typename name) s g u a = 0
@@ -77,7 +77,7 @@ field_value (column c) columns look n = shown_at columns (look c) c
 field_value (typename name) columns look n = tree.text name
 field_value _ columns look n = cell_at (value_place n)
 
-abbrev pub fields_values : FieldTrees → Schema → Rights → Look → (t n : ℕ) → List PairTree
+abbrev pub fields_values : FieldTrees → Schema → GrantedTables → Look → (t n : ℕ) → List PairTree
 fields_values no_field s g look t n = []
 fields_values (field key f fs) s g look t n = record { name = key; value = field_value f (table s t).columns look n } ∷ fields_values fs s g look t (n + field_numbers f s g t)
 
@@ -85,7 +85,7 @@ abbrev pub part_value : PartTree → (n : ℕ) → ExprTree
 part_value (part_typename name) n = tree.text name
 part_value _ n = cell_at (value_place n)
 
-abbrev pub parts_values : PartTrees → Schema → Rights → (u : ℕ) → ListArguments → (n : ℕ) → List PairTree
+abbrev pub parts_values : PartTrees → Schema → GrantedTables → (u : ℕ) → ListArguments → (n : ℕ) → List PairTree
 parts_values no_part s g u a n = []
 parts_values (part key p ps) s g u a n = record { name = key; value = part_value p n } ∷ parts_values ps s g u a (n + part_numbers p s g u a)
 
@@ -99,11 +99,11 @@ parts_select n values joins =
     tree.rows [] (value_output (tree.object (pairs_of values))) (tree.one (table_alias n)) (joins_of joins) tree.no_filter [] None None
 
 -- the first number of the fields of a list of table u at the alias of number n
-abbrev pub kids_from : Schema → Rights → (u : ℕ) → ListArguments → FieldTrees → (n : ℕ) → ℕ
+abbrev pub kids_from : Schema → GrantedTables → (u : ℕ) → ListArguments → FieldTrees → (n : ℕ) → ℕ
 kids_from s g u a fs n = children_from s g u (list_used s u a (fields_used fs)) a n
 
 -- a list of rows, with the joins of their fields
-abbrev pub list_join : Schema → Rights → Origin → (t p : ℕ) → ListArguments → FieldTrees → (n : ℕ) → (kids : List JoinTree) → JoinTree
+abbrev pub list_join : Schema → GrantedTables → Origin → (t p : ℕ) → ListArguments → FieldTrees → (n : ℕ) → (kids : List JoinTree) → JoinTree
 list_join s g o t p a fs n kids = record {
   select = list_select s g (origin_table o s t) (list_used s (origin_table o s t) a (fields_used fs)) a n (origin_tie o s t p n)
       (fields_values fs s g (shown_look s g (origin_table o s t) (list_used s (origin_table o s t) a (fields_used fs)) n) (origin_table o s t)
@@ -113,11 +113,11 @@ list_join s g o t p a fs n kids = record {
 
 -- The lateral joins of fields at a row of table t at the alias of number p, their numbers from n on.
 abbrev mutual
-  pub fields_joins : FieldTrees → Schema → Rights → (t p n : ℕ) → List JoinTree
+  pub fields_joins : FieldTrees → Schema → GrantedTables → (t p n : ℕ) → List JoinTree
   fields_joins no_field s g t p n = []
   fields_joins (field key f fs) s g t p n = field_joins f s g t p n ++ fields_joins fs s g t p (n + field_numbers f s g t)
 
-  pub field_joins : FieldTree → Schema → Rights → (t p n : ℕ) → List JoinTree
+  pub field_joins : FieldTree → Schema → GrantedTables → (t p n : ℕ) → List JoinTree
   field_joins (column c) s g t p n = []
   field_joins (typename name) s g t p n = []
   field_joins no_queries s g t p n = record { select = empty_select n; alias = join_alias n } ∷ []
@@ -152,11 +152,11 @@ abbrev mutual
   field_joins (introspect f) s g t p n = record { select = empty_select n; alias = join_alias n } ∷ []
 
   -- those of an aggregate over a list
-  pub parts_joins : PartTrees → Schema → Rights → Origin → (t p : ℕ) → ListArguments → (n : ℕ) → List JoinTree
+  pub parts_joins : PartTrees → Schema → GrantedTables → Origin → (t p : ℕ) → ListArguments → (n : ℕ) → List JoinTree
   parts_joins no_part s g o t p a n = []
   parts_joins (part key q ps) s g o t p a n = part_joins q s g o t p a n ++ parts_joins ps s g o t p a (n + part_numbers q s g (origin_table o s t) a)
 
-  pub part_joins : PartTree → Schema → Rights → Origin → (t p : ℕ) → ListArguments → (n : ℕ) → List JoinTree
+  pub part_joins : PartTree → Schema → GrantedTables → Origin → (t p : ℕ) → ListArguments → (n : ℕ) → List JoinTree
   part_joins (summary fs) s g o t p a n =
       record { select = summary_select fs s g (origin_table o s t) a n (origin_tie o s t p n); alias = join_alias n } ∷ []
   part_joins (nodes fs) s g o t p a n =

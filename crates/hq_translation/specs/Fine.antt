@@ -35,7 +35,7 @@ use Rattle.hq_sql_tree.specs.Tree as sql
 use Rattle.hq_sql_tree.specs.WellFormed.{text, Aliases, Kind, Names, kind_of_type, compare_kinds, is_typed_test, is_typed}
 use Rattle.hq_translation.specs.Looks.{tested_form, is_used}
 use Rattle.hq_translation.specs.Conditions.{literals_for}
-use Rattle.hq_translation.specs.Rights.{Rights}
+use Rattle.hq_translation.specs.GrantedTables.{GrantedTables}
 use Rattle.hq_translation.specs.Lists.{once, list_sorts}
 use Rattle.hq_translation.specs.Aggregates.{needed}
 use Rattle.hq_translation.specs.Fields.{fields_numbers}
@@ -103,7 +103,7 @@ abbrev pub FineMask : Schema → (t : ℕ) → Mask → Type 0
 FineMask s t m = Has s t m.column × FineBexp m.shown s t
 
 -- what is granted of a table fits it
-pub record FineRights (s : Schema) (g : Rights) (t : ℕ) : Type 0 where
+pub record FineRights (s : Schema) (g : GrantedTables) (t : ℕ) : Type 0 where
   pub filter : FineBexp (g.filter t) s t
   pub masks : Each (FineMask s t) (g.masks t)
 
@@ -189,7 +189,7 @@ abbrev mutual
   FinePart (part_typename name) s u = Unit {0}
 
 -- Each part of the statement has its type in scope.
-abbrev pub IsTyped : FieldTrees → List Table → MetaTree → Rights → Type 0
+abbrev pub IsTyped : FieldTrees → List Table → MetaTree → GrantedTables → Type 0
 IsTyped fs tables meta g =
     let s = schema_of tables meta in
     is_catalog tables ≡ true → ((t : ℕ) → Known s t → FineRights s g t) → FineFields fs s (length s) → Apart fs → 1 + fields_numbers fs s g (length s) ≤ 2 ^ 64 →

@@ -1,7 +1,7 @@
 pub mod Asked
 pub mod Names
 pub mod Looks
-pub mod Rights
+pub mod GrantedTables
 pub mod Conditions
 pub mod Predicates
 pub mod Masks

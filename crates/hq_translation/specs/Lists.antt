@@ -1,7 +1,7 @@
 -- The select of a list: the array of its rows' objects in order.
 use Rattle.std.specs.Prelude.{ℕ, ◌+◌, List, [], ◌∷◌, ◌++◌, Option, false}
 use Rattle.hq_model.specs.Bexp.{BexpTree}
-use Rattle.hq_translation.specs.Rights.{Rights}
+use Rattle.hq_translation.specs.GrantedTables.{GrantedTables}
 use Rattle.hq_model.specs.Schema.{Schema, table}
 use Rattle.hq_model.specs.Selected.{ListArguments, entries, smaller}
 use Rattle.hq_model.specs.declared.table.Column.{Column}
@@ -28,19 +28,19 @@ abbrev pub list_used : Schema → (t : ℕ) → ListArguments → (outputs : Lis
 list_used s t a outs = columns_in a.wanted ++ (used_sorts (list_sorts s t a) ++ ((once a).distinct ++ outs))
 
 -- how many numbers the `where` of a list takes
-abbrev pub where_numbers : BexpTree → Schema → Rights → (t : ℕ) → ℕ
+abbrev pub where_numbers : BexpTree → Schema → GrantedTables → (t : ℕ) → ℕ
 where_numbers b s g t = numbers b s (where_mode s g) t
 
 -- the first numbers of a list's sort keys and of its children
-abbrev pub sorts_from : Schema → Rights → (t : ℕ) → (used : List ℕ) → ListArguments → (n : ℕ) → ℕ
+abbrev pub sorts_from : Schema → GrantedTables → (t : ℕ) → (used : List ℕ) → ListArguments → (n : ℕ) → ℕ
 sorts_from s g t cs a n = n + 1 + extra s g t cs + filter_numbers s g t + where_numbers a.wanted s g t
 
-abbrev pub children_from : Schema → Rights → (t : ℕ) → (used : List ℕ) → ListArguments → (n : ℕ) → ℕ
+abbrev pub children_from : Schema → GrantedTables → (t : ℕ) → (used : List ℕ) → ListArguments → (n : ℕ) → ℕ
 children_from s g t cs a n =
     n + 1 + extra s g t cs + filter_numbers s g t + where_numbers a.wanted s g t + sorts_numbers (list_sorts s t a) s g t
 
 -- how many numbers a list takes without its children
-abbrev pub list_numbers : Schema → Rights → (t : ℕ) → (used : List ℕ) → ListArguments → ℕ
+abbrev pub list_numbers : Schema → GrantedTables → (t : ℕ) → (used : List ℕ) → ListArguments → ℕ
 list_numbers s g t cs a =
     1 + extra s g t cs + filter_numbers s g t + where_numbers a.wanted s g t + sorts_numbers (list_sorts s t a) s g t
 
@@ -50,7 +50,7 @@ distinct_columns columns look [] = []
 distinct_columns columns look (c ∷ cs) = compared_at columns (look c) c ∷ distinct_columns columns look cs
 
 -- The selected rows of table t at the alias of number n. They are tied to what stands around.
-abbrev pub list_rows : Schema → Rights → (t : ℕ) → (used : List ℕ) → ListArguments → (n : ℕ) → (tie : PredTree) → (limit : Option ℕ) → List OutTree → (children : List JoinTree) → SelectTree
+abbrev pub list_rows : Schema → GrantedTables → (t : ℕ) → (used : List ℕ) → ListArguments → (n : ℕ) → (tie : PredTree) → (limit : Option ℕ) → List OutTree → (children : List JoinTree) → SelectTree
 list_rows s g t cs a n tie limit outs children =
     rows (distinct_columns (table s t).columns (shown_look s g t cs n) (once a).distinct) outs
     (from_table (table s t).schema (table s t).name (table_alias n))
@@ -60,13 +60,13 @@ list_rows s g t cs a n tie limit outs children =
     (orders (list_sorts s t a) s g (shown_look s g t cs n) t n (sorts_from s g t cs a n)) limit a.offset
 
 -- the object of the children's values, and the sort keys
-abbrev pub list_outputs : Schema → Rights → (t : ℕ) → (used : List ℕ) → ListArguments → (n : ℕ) → List PairTree → List OutTree
+abbrev pub list_outputs : Schema → GrantedTables → (t : ℕ) → (used : List ℕ) → ListArguments → (n : ℕ) → List PairTree → List OutTree
 list_outputs s g t cs a n values =
     record { value = object (pairs_of values); name = value_name }
     ∷ key_outputs (list_sorts s t a) s g (shown_look s g t cs n) t n (sorts_from s g t cs a n) 0
 
 -- a list under its own limit and the permission's
-abbrev pub list_select : Schema → Rights → (t : ℕ) → (used : List ℕ) → ListArguments → (n : ℕ) → (tie : PredTree) → List PairTree → (children : List JoinTree) → SelectTree
+abbrev pub list_select : Schema → GrantedTables → (t : ℕ) → (used : List ℕ) → ListArguments → (n : ℕ) → (tie : PredTree) → List PairTree → (children : List JoinTree) → SelectTree
 list_select s g t cs a n tie values children =
     fold (record {
       value = aggregate (json_agg (column (fold_alias n) value_name Plain) (orders_of (output_orders (list_sorts s t a) s t n 0)));

@@ -13,13 +13,13 @@ use Rattle.hq_sql_tree.specs.Tree.{ExprTree, column}
 use Rattle.hq_translation.specs.Names.{table_alias}
 
 -- a name of an alias
-pub record Place : Type 0 where
+pub record ColumnName : Type 0 where
   pub alias : List ℕ
   pub name : List ℕ
 
 -- for each column of a table the place where its cell stands
 abbrev pub Look : Type 0
-Look = ℕ → Place
+Look = ℕ → ColumnName
 
 -- the name of a column; empty beyond the table's columns
 abbrev pub name_of : List Column → ℕ → List ℕ
@@ -50,16 +50,16 @@ abbrev pub own_look : List Column → (p : ℕ) → Look
 own_look columns p c = record { alias = table_alias p; name = name_of columns c }
 
 -- the cell at a place, as it is shown, as it is compared, and as a test looks at it
-abbrev pub cell_at : Place → ExprTree
+abbrev pub cell_at : ColumnName → ExprTree
 cell_at p = column p.alias p.name Plain
 
-abbrev pub shown_at : List Column → Place → ℕ → ExprTree
+abbrev pub shown_at : List Column → ColumnName → ℕ → ExprTree
 shown_at columns p c = column p.alias p.name (shown_form (type_in columns c))
 
-abbrev pub compared_at : List Column → Place → ℕ → ExprTree
+abbrev pub compared_at : List Column → ColumnName → ℕ → ExprTree
 compared_at columns p c = column p.alias p.name (compared_form (type_in columns c))
 
-abbrev pub tested_at : List Column → Place → ℕ → Test → ExprTree
+abbrev pub tested_at : List Column → ColumnName → ℕ → Test → ExprTree
 tested_at columns p c t = column p.alias p.name (tested_form t (type_in columns c))
 
 -- whether a column is among those that are used

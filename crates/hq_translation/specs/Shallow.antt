@@ -6,7 +6,7 @@ use Rattle.hq_model.specs.Schema.{Schema}
 use Rattle.hq_model.specs.Selected.{ListArguments}
 use Rattle.hq_request_tree.specs.Fields.{FieldTrees, no_field, field, FieldTree, column, typename, no_queries, object, list, by_key, aggregate, introspect, PartTrees, no_part, part, PartTree, summary, nodes, part_typename}
 use Rattle.hq_sql_tree.specs.Form.{select_depth}
-use Rattle.hq_translation.specs.Rights.{Rights}
+use Rattle.hq_translation.specs.GrantedTables.{GrantedTables}
 use Rattle.hq_translation.specs.Statement.{statement}
 
 -- how many selects of fields stand in one another
@@ -35,7 +35,7 @@ abbrev mutual
   part_height (part_typename name) = 0
 
 -- the filters and the masks are nested at most F deep
-abbrev pub LowRights : Rights → (F : ℕ) → Type 0
+abbrev pub LowRights : GrantedTables → (F : ℕ) → Type 0
 LowRights g F = ((t : ℕ) → depth (g.filter t) ≤ F) × ((t : ℕ) → Each (λ m. depth m.shown ≤ F) (g.masks t))
 
 -- a `where` is nested at most X deep, and sorts go through at most C relationships
@@ -67,5 +67,5 @@ abbrev mutual
   IsLowPart (part_typename name) X C = Unit {0}
 
 -- The statement opens at most two parentheses for each level of fields, and so many more.
-abbrev pub IsShallow : FieldTrees → Schema → Rights → (F X C : ℕ) → Type 0
+abbrev pub IsShallow : FieldTrees → Schema → GrantedTables → (F X C : ℕ) → Type 0
 IsShallow fs s g F X C = LowRights g F → AreLow fs X C → select_depth (statement fs s g) ≤ 2 * fields_height fs + (2 * X + 2 * F + C + 6)

@@ -1,13 +1,13 @@
 -- Sort keys: entries of `order_by`, which read shown cells, also at the end of object relationships, and the columns of the
 -- primary key, which are the row's own.
 use Rattle.std.specs.Prelude.{ℕ, ◌+◌, List, [], ◌∷◌, ◌++◌, Bool, true, false}
-use Rattle.hq_translation.specs.Rights.{Rights}
+use Rattle.hq_translation.specs.GrantedTables.{GrantedTables}
 use Rattle.hq_model.specs.Schema.{Schema, table, rel}
 use Rattle.hq_model.specs.Selected.{SortKey}
 use Rattle.hq_sql_tree.specs.declared.expr.ColumnForm.{ColumnForm}
 use Rattle.hq_sql_tree.specs.Tree.{column, OrderTree, OutTree, JoinTree}
 use Rattle.hq_translation.specs.Names.{fold_alias, join_alias, key_name}
-use Rattle.hq_translation.specs.Looks.{Look, Place, type_in, compared_form, own_look, cell_at}
+use Rattle.hq_translation.specs.Looks.{Look, ColumnName, type_in, compared_form, own_look, cell_at}
 use Rattle.hq_translation.specs.Predicates.{link}
 use Rattle.hq_translation.specs.Masks.{value_place, extra, masks, shown_look, filter_numbers, filter_predicate}
 use Rattle.hq_translation.specs.Selects.{filter_from, behind_filter, first_select}
@@ -50,19 +50,19 @@ abbrev pub sort_form : Schema → (t : ℕ) → SortKey → ColumnForm
 sort_form s t k = compared_form (type_in (table s (end_of k.through s t)).columns k.column)
 
 -- where the cell of a sort key stands, for a row at the alias of number p; n is the number of its join
-abbrev pub sort_place : (own : Bool) → (through : List ℕ) → Schema → Look → (t p n c : ℕ) → Place
+abbrev pub sort_place : (own : Bool) → (through : List ℕ) → Schema → Look → (t p n c : ℕ) → ColumnName
 sort_place true rs s look t p n c = own_look (table s t).columns p c
 sort_place false [] s look t p n c = look c
 sort_place false (r ∷ rs) s look t p n c = value_place n
 
 -- how many numbers a sort key takes: at each relationship the alias, its masks and its filter
-abbrev pub sort_numbers : (through : List ℕ) → Schema → Rights → (t c : ℕ) → ℕ
+abbrev pub sort_numbers : (through : List ℕ) → Schema → GrantedTables → (t c : ℕ) → ℕ
 sort_numbers [] s g t c = 0
 sort_numbers (r ∷ rs) s g t c =
     1 + extra s g (rel s t r).remote (last_used rs c) + filter_numbers s g (rel s t r).remote + sort_numbers rs s g (rel s t r).remote c
 
 -- the join of a sort key through relationships, with that of the next relationship inside it
-abbrev pub sort_joins : (through : List ℕ) → Schema → Rights → (t p n c : ℕ) → List JoinTree
+abbrev pub sort_joins : (through : List ℕ) → Schema → GrantedTables → (t p n c : ℕ) → List JoinTree
 sort_joins [] s g t p n c = []
 sort_joins (r ∷ rs) s g t p n c =
     record {
@@ -76,17 +76,17 @@ sort_joins (r ∷ rs) s g t p n c =
     }
     ∷ []
 
-abbrev pub sorts_numbers : List Sort → Schema → Rights → (t : ℕ) → ℕ
+abbrev pub sorts_numbers : List Sort → Schema → GrantedTables → (t : ℕ) → ℕ
 sorts_numbers [] s g t = 0
 sorts_numbers (k ∷ ks) s g t = sort_numbers k.key.through s g t k.key.column + sorts_numbers ks s g t
 
-abbrev pub sorts_joins : List Sort → Schema → Rights → (t p n : ℕ) → List JoinTree
+abbrev pub sorts_joins : List Sort → Schema → GrantedTables → (t p n : ℕ) → List JoinTree
 sorts_joins [] s g t p n = []
 sorts_joins (k ∷ ks) s g t p n =
     sort_joins k.key.through s g t p n k.key.column ++ sorts_joins ks s g t p (n + sort_numbers k.key.through s g t k.key.column)
 
 -- ORDER BY of the rows
-abbrev pub orders : List Sort → Schema → Rights → Look → (t p n : ℕ) → List OrderTree
+abbrev pub orders : List Sort → Schema → GrantedTables → Look → (t p n : ℕ) → List OrderTree
 orders [] s g look t p n = []
 orders (k ∷ ks) s g look t p n =
     record {
@@ -97,7 +97,7 @@ orders (k ∷ ks) s g look t p n =
     ∷ orders ks s g look t p (n + sort_numbers k.key.through s g t k.key.column)
 
 -- the sort keys as outputs of the rows, numbered from i
-abbrev pub key_outputs : List Sort → Schema → Rights → Look → (t p n i : ℕ) → List OutTree
+abbrev pub key_outputs : List Sort → Schema → GrantedTables → Look → (t p n i : ℕ) → List OutTree
 key_outputs [] s g look t p n i = []
 key_outputs (k ∷ ks) s g look t p n i =
     record { value = cell_at (sort_place k.own k.key.through s look t p n k.key.column); name = key_name i }

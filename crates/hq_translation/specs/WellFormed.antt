@@ -7,7 +7,7 @@ use Rattle.hq_model.specs.declared.table.Table.{Table}
 use Rattle.hq_request_tree.specs.Fields.{FieldTrees}
 use Rattle.hq_sql_tree.specs.Form.{select_fits}
 use Rattle.hq_sql_tree.specs.WellFormed.{is_statement}
-use Rattle.hq_translation.specs.Rights.{Rights}
+use Rattle.hq_translation.specs.GrantedTables.{GrantedTables}
 use Rattle.hq_translation.specs.Fields.{fields_numbers}
 use Rattle.hq_translation.specs.Statement.{statement}
 use Rattle.hq_translation.specs.Shallow.{fields_height, LowRights, AreLow}
@@ -15,7 +15,7 @@ use Rattle.hq_translation.specs.Fine.{Known, FineRights, FineFields, Apart}
 
 -- The statement of fields of the catalog, which are nested few enough, is well-formed for the catalog, where a tree can hold
 -- its texts and numbers.
-abbrev pub IsWellFormed : FieldTrees → List Table → MetaTree → Rights → (F X C : ℕ) → Type 0
+abbrev pub IsWellFormed : FieldTrees → List Table → MetaTree → GrantedTables → (F X C : ℕ) → Type 0
 IsWellFormed fs tables meta g F X C =
     let s = schema_of tables meta in
     is_catalog tables ≡ true → ((t : ℕ) → Known s t → FineRights s g t) → FineFields fs s (length s) → Apart fs → 1 + fields_numbers fs s g (length s) ≤ 2 ^ 64 →

@@ -6,7 +6,7 @@ ghost use Rattle.hq_model.specs.declared.table.Table.{Table};
 ghost use Rattle.hq_request_tree.specs.Fields.{FieldTrees};
 ghost use Rattle.hq_translation.specs.Correct.{AliasesDiffer, IsGrammatical, MeansResolved};
 ghost use Rattle.hq_translation.specs.Fine.{IsTyped};
-ghost use Rattle.hq_translation.specs.Rights.{Rights};
+ghost use Rattle.hq_translation.specs.GrantedTables.{GrantedTables};
 ghost use Rattle.hq_translation.specs.Shallow.{IsShallow};
 ghost use Rattle.hq_translation.specs.WellFormed.{IsWellFormed};
 ghost use Rattle.hq_model.specs.Schema.{Schema};
@@ -19,26 +19,27 @@ pub fn statements_mean_resolved()
 
 /// The law: no two tables, groups and joins of the statement have the same alias, at whatever depth they stand.
 pub fn aliases_differ()
-    ensures { (fields : FieldTrees) (schema : Schema) (rights : Rights) → AliasesDiffer fields schema rights }
+    ensures { (fields : FieldTrees) (schema : Schema) (rights : GrantedTables) → AliasesDiffer fields schema rights }
 {}
 
 /// The law: the statement is a tree of SQL's grammar, where each list is one of a table that has a key.
 pub fn statement_is_grammatical()
-    ensures { (fields : FieldTrees) (schema : Schema) (rights : Rights) → IsGrammatical fields schema rights }
+    ensures { (fields : FieldTrees) (schema : Schema) (rights : GrantedTables) → IsGrammatical fields schema rights }
 {}
 
 /// The law: the statement opens few parentheses at once.
 pub fn statement_is_shallow()
-    ensures { (fields : FieldTrees) (schema : Schema) (rights : Rights) (filters conditions chains : ℕ) → IsShallow fields schema rights filters conditions chains }
+    ensures { (fields : FieldTrees) (schema : Schema) (rights : GrantedTables) (filters conditions chains : ℕ) → IsShallow fields schema rights filters conditions chains }
 {}
 
 /// The law: each part of the statement has its type in scope.
 pub fn statement_is_typed()
-    ensures { (fields : FieldTrees) (tables : Items Table) (meta : MetaTree) (rights : Rights) → IsTyped fields tables meta rights }
+    ensures { (fields : FieldTrees) (tables : Items Table) (meta : MetaTree) (rights : GrantedTables) → IsTyped fields tables meta rights }
 {}
 
 /// The law: the statement is well-formed for the catalog, where its fields are of the catalog and nested few enough, and a tree
 /// can hold its texts and numbers.
 pub fn statement_is_well_formed()
-    ensures { (fields : FieldTrees) (tables : Items Table) (meta : MetaTree) (rights : Rights) (filters conditions chains : ℕ) → IsWellFormed fields tables meta rights filters conditions chains }
+    ensures { (fields : FieldTrees) (tables : Items Table) (meta : MetaTree) (rights : GrantedTables) (filters conditions chains : ℕ)
+        → IsWellFormed fields tables meta rights filters conditions chains }
 {}

@@ -27,7 +27,7 @@ use Rattle.hq_sql_tree.specs.Form.{is_one, is_no_join}
 use Rattle.hq_sql_tree.specs.Meaning.{NamedRow, cell_named, Scope, with_alias, World, named_row, rows_named, value, order_cmp, distinct_on, limited, offset_by, outputs, or_null_row, has_rows, rows_of, scopes_of, joined, kept, truth_at, all_true, any_true}
 use Rattle.hq_translation.specs.Masks.{filter_numbers}
 use Rattle.hq_translation.specs.Predicates.{own_numbers}
-use Rattle.hq_translation.specs.Rights.{rights_of}
+use Rattle.hq_translation.specs.GrantedTables.{rights_of}
 use Rattle.hq_translation.proofs.Names.{same_text, Narrow}
 use Rattle.hq_translation.proofs.Sound.{negated}
 use Rattle.hq_confine_rules.specs.Conjuncts.{opened, all_opened, conjuncts}

@@ -102,7 +102,8 @@ module _ (s : Schema) (tables : List Table) (d : List (List Row)) (base : Base s
         (is_bare distinct joins keys limit offset && is_bare other_distinct other_joins other_keys other_limit other_offset
         && same_table from other_from)
         (are_alike_outs (beside r from other_from) outs other_outs)
-        (and_parts (is_bare distinct joins keys limit offset && is_bare other_distinct other_joins other_keys other_limit other_offset && same_table from other_from && are_alike_outs (beside r from other_from) outs other_outs) (is_alike_filter (beside r from other_from) condition other_condition) k).0).0
+        (and_parts (is_bare distinct joins keys limit offset && is_bare other_distinct other_joins other_keys other_limit other_offset && same_table from other_from
+        && are_alike_outs (beside r from other_from) outs other_outs) (is_alike_filter (beside r from other_from) condition other_condition) k).0).0
         in
         absurd (let no = from_one.1 in cc)
     has_keyed _ _ r k x = cc

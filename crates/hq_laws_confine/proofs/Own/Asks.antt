@@ -28,7 +28,7 @@ use Rattle.hq_translation.specs.Asked.{table_request, TablesAsked}
 use Rattle.hq_translation.specs.Correct.{AreFew}
 use Rattle.hq_translation.specs.Fields.{fields_numbers}
 use Rattle.hq_translation.specs.Fine.{Has}
-use Rattle.hq_translation.specs.Rights.{rights_of}
+use Rattle.hq_translation.specs.GrantedTables.{rights_of}
 use Rattle.hq_confine_rules.specs.Faults.{faults}
 use Rattle.hq_confine_rules.specs.Laws.{AsksConfined}
 use Rattle.hq_confine_rules.specs.Members.{is_permitted}

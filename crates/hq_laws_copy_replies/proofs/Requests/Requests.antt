@@ -4,7 +4,7 @@ use Rattle.hq_base.specs.Due.{mapped, and_then, ◌>>=◌}
 use Rattle.hq_base.specs.Json.{JsonTree}
 use Rattle.hq_base.specs.Lists.{Each}
 use Rattle.hq_request_build.specs.Due.{operation_of, collected_due, root_due, with_fault, bound_in, build_due}
-use Rattle.hq_request_build.specs.Known.{Due}
+use Rattle.hq_request_build.specs.KnownField.{Due}
 use Rattle.hq_request_tree.specs.Fields.{FieldTrees}
 use Rattle.hq_request_tree.specs.Request.{BoundTree, AskTree}
 use Rattle.hq_request_tree.specs.Touched.{touched}

@@ -14,7 +14,7 @@ use Rattle.hq_schema.specs.declared.origin.TypeOrigin.TheVariants as type
 use Rattle.hq_schema_of_role.specs.Root.{type_name_field, schema_field, type_field}
 use Rattle.hq_schema_roles.specs.Access.{Access}
 use Rattle.hq_schema_roles.specs.Leads.{ArgFits, FieldFits, TypeFits, ColumnsFit, input_target}
-use Rattle.hq_request_build.specs.Known.{is_complete, name_of_type, type_name_due}
+use Rattle.hq_request_build.specs.KnownField.{is_complete, name_of_type, type_name_due}
 use Rattle.hq_laws_renumbered.specs.Resolving.Renumbering.{Renumbering}
 use Rattle.hq_laws_renumbered.specs.Schemas.SchemaOver.{arg_over, field_over, type_table, type_over, schema_over}
 use Rattle.hq_laws_renumbered.specs.Requests.OfRole.{At, IsOfSeen, LooksUp, LeadsToPlain, Introspects, IsOfRole}

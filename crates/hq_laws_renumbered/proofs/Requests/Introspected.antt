@@ -14,7 +14,7 @@ use Rattle.hq_schema_roles.specs.Access.{Access}
 use Rattle.hq_schema_roles.specs.Leads.{Reaches, introspection_target}
 use Rattle.hq_request_arguments.specs.Context.{Context}
 use Rattle.hq_request_arguments.specs.Due.{introspection_due, arguments_due}
-use Rattle.hq_request_build.specs.Known.{known_due, leads_to, deprecated_of}
+use Rattle.hq_request_build.specs.KnownField.{known_due, leads_to, deprecated_of}
 use Rattle.hq_request_build.specs.Looks.{look_of, looks_due}
 use Rattle.hq_request_tree.specs.Introspection.{look, looks}
 use Rattle.hq_request_coerce.specs.Variables.{VarTree}

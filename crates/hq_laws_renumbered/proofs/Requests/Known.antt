@@ -12,7 +12,7 @@ use Rattle.hq_request_arguments.specs.Context.{Context}
 use Rattle.hq_request_arguments.specs.Due.{at_field, arguments_due}
 use Rattle.hq_request_arguments.specs.FieldArguments.{FieldArguments}
 use Rattle.hq_request_arguments.specs.Reading.{Read}
-use Rattle.hq_request_build.specs.Known.{Due, refused, is_complete, Known, known_of, known_due}
+use Rattle.hq_request_build.specs.KnownField.{Due, refused, is_complete, KnownField, known_of, known_due}
 use Rattle.hq_request_coerce.specs.Variables.{VarTree}
 use Rattle.hq_laws_renumbered.specs.Resolving.Renumbering.{Renumbering}
 use Rattle.hq_laws_renumbered.specs.Schemas.SchemaOver.{field_over, type_table, schema_over}
@@ -42,7 +42,7 @@ module _ (s z : Schema) (n : Renumbering) (a : Access) (r : SchemaTree) (of_role
   d = context vars (schema_over n r) z
 
   -- what follows a field that is found, with its arguments
-  pub known_over : {B C : Type 0} (H : B → C) (place : ℕ) (o : TypeOrigin) → At r.types place o → (t u : ℕ) (h : FieldHead) (empty : Bool) (next : Known → Due B) (over : Known → Due C)
+  pub known_over : {B C : Type 0} (H : B → C) (place : ℕ) (o : TypeOrigin) → At r.types place o → (t u : ℕ) (h : FieldHead) (empty : Bool) (next : KnownField → Due B) (over : KnownField → Due C)
       → ((f : FieldTree) → Found s a r of_role place o f
       → and_then (λ g. over (field_over n (type_table o) f, g)) (arguments_due d u (field_over n (type_table o) f) h) ≡ mapped H (and_then (λ g. next (f, g)) (arguments_due c t f h)))
       → and_then over (known_due d place u h empty) ≡ mapped H (and_then next (known_due c place t h empty))

@@ -20,7 +20,7 @@ use Rattle.hq_request_arguments.specs.Reading.{given_named}
 use Rattle.hq_request_build.specs.Asked.{with_below, field_of, fields_due}
 use Rattle.hq_request_build.specs.Due.{root_due}
 use Rattle.hq_request_build.specs.Heads.{head_by}
-use Rattle.hq_request_build.specs.Known.{Due, Known, known_due}
+use Rattle.hq_request_build.specs.KnownField.{Due, KnownField, known_due}
 use Rattle.hq_request_build.specs.Looks.{looks_due}
 use Rattle.hq_request_tree.specs.Fields.{FieldTree, field, by_key, introspect}
 use Rattle.hq_request_tree.specs.Introspection.{look}
@@ -132,8 +132,8 @@ module _ (s z : Schema) (n : Renumbering) (a : Access) (r : SchemaTree) (of_role
   pub roots_over : (trees : CollectedTrees) → root_due vars (schema_over n r) z there trees ≡ mapped (λ fs. fields_over fs s n root) (root_due vars r s root trees)
   roots_over no_collected = refl
   roots_over (collected key h below others) =
-      let next : Known → Due FieldTree = field_of c r.query root h (λ k. below_at c root below k.0) in
-      let more : Known → Due FieldTree = field_of d r.query there h (λ k. below_at d there below k.0) in
+      let next : KnownField → Due FieldTree = field_of c r.query root h (λ k. below_at c root below k.0) in
+      let more : KnownField → Due FieldTree = field_of d r.query there h (λ k. below_at d there below k.0) in
       then_over over (λ fs. fields_over fs s n root) (λ x. mapped (field key x) (fields_due c r.query root others)) (λ x. mapped (field key x) (fields_due d r.query there others))
       (known_due c r.query root h (is_empty below) >>= next) (known_due d r.query there h (is_empty below) >>= more)
       (known_over s z n a r of_role vars over r.query type.Query of_role.root root there h (is_empty below) next more (one_root h below))

@@ -19,7 +19,7 @@ use Rattle.hq_request_arguments.specs.FieldArguments.{FieldArguments, rows}
 use Rattle.hq_request_build.specs.Asked.{with_below, field_of, part_by, fields_due, parts_due}
 use Rattle.hq_request_build.specs.Asked as due
 use Rattle.hq_request_build.specs.Heads.{leaf, list_head_due, aggregate_head_due, head_by}
-use Rattle.hq_request_build.specs.Known.{Due, Known, known_due, leads_to, type_name_due}
+use Rattle.hq_request_build.specs.KnownField.{Due, KnownField, known_due, leads_to, type_name_due}
 use Rattle.hq_request_build.specs.Looks.{looks_due}
 use Rattle.hq_request_build.specs.Summaries.{summaries_due}
 use Rattle.hq_request_tree.specs.Fields.{origin_of, field, FieldTree, typename, object, list, aggregate, part, PartTree, summary, nodes, part_typename}
@@ -234,8 +234,8 @@ module _ (s z : Schema) (n : Renumbering) (a : Access) (r : SchemaTree) (of_role
   rows_one : (key : List ℕ) (h : FieldHead) (below others : CollectedTrees) → Inner below → Inner others → (place t : ℕ) → At types place (type.Rows t)
       → fields_due d place (n.table t) (collected key h below others) ≡ mapped (λ fs. fields_over fs s n t) (fields_due c place t (collected key h below others))
   rows_one key h below others inner later place t at =
-      let next : Known → Due FieldTree = field_of c place t h (λ k. below_at c t below k.0) in
-      let over : Known → Due FieldTree = field_of d place (n.table t) h (λ k. below_at d (n.table t) below k.0) in
+      let next : KnownField → Due FieldTree = field_of c place t h (λ k. below_at c t below k.0) in
+      let over : KnownField → Due FieldTree = field_of d place (n.table t) h (λ k. below_at d (n.table t) below k.0) in
       then_over (λ x. asked_over x s n t) (λ fs. fields_over fs s n t) (λ f. mapped (field key f) (fields_due c place t others)) (λ f. mapped (field key f) (fields_due d place (n.table t) others))
       (known_due c place t h (is_empty below) >>= next) (known_due d place (n.table t) h (is_empty below) >>= over)
       (known_over s z n a r of_role vars (λ x. asked_over x s n t) place (type.Rows t) at t (n.table t) h (is_empty below) next over (one_row h below inner place t at))
@@ -245,8 +245,8 @@ module _ (s z : Schema) (n : Renumbering) (a : Access) (r : SchemaTree) (of_role
   parts_one : (key : List ℕ) (h : FieldHead) (below others : CollectedTrees) → Inner below → Inner others → (place u : ℕ) → At types place (type.Aggregate u)
       → parts_due d place (n.table u) (collected key h below others) ≡ mapped (λ ps. parts_over ps s n u) (parts_due c place u (collected key h below others))
   parts_one key h below others inner later place u at =
-      let next : Known → Due PartTree = λ k. part_by c place h (summaries_due c (leads_to k) u below) (fields_due c (leads_to k) u below) k.0.origin in
-      let over : Known → Due PartTree = λ k. part_by d place h (summaries_due d (leads_to k) (n.table u) below) (fields_due d (leads_to k) (n.table u) below) k.0.origin in
+      let next : KnownField → Due PartTree = λ k. part_by c place h (summaries_due c (leads_to k) u below) (fields_due c (leads_to k) u below) k.0.origin in
+      let over : KnownField → Due PartTree = λ k. part_by d place h (summaries_due d (leads_to k) (n.table u) below) (fields_due d (leads_to k) (n.table u) below) k.0.origin in
       then_over (λ p. part_over p s n u) (λ ps. parts_over ps s n u) (λ p. mapped (part key p) (parts_due c place u others)) (λ p. mapped (part key p) (parts_due d place (n.table u) others))
       (known_due c place u h (is_empty below) >>= next) (known_due d place (n.table u) h (is_empty below) >>= over)
       (known_over s z n a r of_role vars (λ p. part_over p s n u) place (type.Aggregate u) at u (n.table u) h (is_empty below) next over (one_part h below inner place u at))

@@ -15,7 +15,7 @@ use Rattle.hq_request_arguments.specs.Context.{Context}
 use Rattle.hq_request_arguments.specs.Due.{at_field, by_origin, count_due}
 use Rattle.hq_request_arguments.specs.FieldArguments.{FieldArguments}
 use Rattle.hq_request_arguments.specs.FieldArguments as given
-use Rattle.hq_request_build.specs.Known.{Due, Known, known_due, leads_to, type_name_due}
+use Rattle.hq_request_build.specs.KnownField.{Due, KnownField, known_due, leads_to, type_name_due}
 use Rattle.hq_request_build.specs.Summaries.{taken_by, with_taken, taken_due, summary_by, with_summary, summaries_due}
 use Rattle.hq_request_tree.specs.declared.aggregate.AggCol.TheVariants as of
 use Rattle.hq_request_tree.specs.declared.aggregate.AggField.{AggField}
@@ -73,9 +73,10 @@ module _ (s z : Schema) (n : Renumbering) (a : Access) (r : SchemaTree) (of_role
   taken_due_over g no_collected place at = refl
   taken_due_over g (collected key h below others) place at =
       then_over (taken_over n u) (map (keyed_taken_over n u)) (λ f. mapped (with_taken key f) (taken_due c place u others)) (λ f. mapped (with_taken key f) (taken_due d place (n.table u) others))
-      (known_due c place u h (is_empty below) >>= λ (k : Known). taken_by c place h k.0.origin) (known_due d place (n.table u) h (is_empty below) >>= λ (k : Known). taken_by d place h k.0.origin)
+      (known_due c place u h (is_empty below) >>= λ (k : KnownField). taken_by c place h k.0.origin)
+      (known_due d place (n.table u) h (is_empty below) >>= λ (k : KnownField). taken_by d place h k.0.origin)
       (known_over s z n a r of_role vars (taken_over n u) place (type.Aggregated g u) at u (n.table u) h (is_empty below)
-      (λ (k : Known). taken_by c place h k.0.origin) (λ (k : Known). taken_by d place h k.0.origin) (one_taken place h g at))
+      (λ (k : KnownField). taken_by c place h k.0.origin) (λ (k : KnownField). taken_by d place h k.0.origin) (one_taken place h g at))
       (λ f e. mapped_over (map (keyed_taken_over n u)) (map (keyed_taken_over n u)) (with_taken key f) (with_taken key (taken_over n u f))
       (λ fs. refl) (taken_due c place u others) (taken_due d place (n.table u) others)
       (taken_due_over g others place at))
@@ -124,8 +125,8 @@ module _ (s z : Schema) (n : Renumbering) (a : Access) (r : SchemaTree) (of_role
       → summaries_due d place (n.table u) trees ≡ mapped (map (keyed_summary_over n u)) (summaries_due c place u trees)
   summaries_over no_collected place at = refl
   summaries_over (collected key h below others) place at =
-      let next : Known → Due AggField = λ k. summary_by c place h k (taken_due c (leads_to k) u below) k.0.origin in
-      let over : Known → Due AggField = λ k. summary_by d place h k (taken_due d (leads_to k) (n.table u) below) k.0.origin in
+      let next : KnownField → Due AggField = λ k. summary_by c place h k (taken_due c (leads_to k) u below) k.0.origin in
+      let over : KnownField → Due AggField = λ k. summary_by d place h k (taken_due d (leads_to k) (n.table u) below) k.0.origin in
       then_over (summary_over n u) (map (keyed_summary_over n u)) (λ f. mapped (with_summary key f) (summaries_due c place u others))
       (λ f. mapped (with_summary key f) (summaries_due d place (n.table u) others))
       (known_due c place u h (is_empty below) >>= next) (known_due d place (n.table u) h (is_empty below) >>= over)

@@ -38,7 +38,7 @@ use Rattle.std.specs.Prelude.{unwrap_or}
 use Rattle.hq_request_collect.specs.Groups.{Group, key_or, response_key, grouped, selections_under, merged}
 use Rattle.hq_request_collect.specs.Tree.{CollectedTrees, no_collected, collected, is_empty, fields_of, collected_down}
 use Rattle.hq_request_collect.proofs.Kept.{collect_kept}
-use Rattle.hq_request_build.specs.Known.{is_complete}
+use Rattle.hq_request_build.specs.KnownField.{is_complete}
 use Rattle.hq_laws_request.proofs.Built.BuildingSteps.{and_then_some}
 use Rattle.hq_laws_request.proofs.Built.Items.{each_append}
 use Rattle.hq_laws_request.proofs.Built.Literals.{Good, each_split, not_none}

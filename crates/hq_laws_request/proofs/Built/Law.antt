@@ -59,7 +59,7 @@ use Rattle.hq_request_tree.specs.Touched.{touched}
 use Rattle.hq_request_build.specs.Bound.{bounds_due}
 use Rattle.hq_request_build.specs.Laws.{request_of}
 use Rattle.hq_request_build.specs.Due.{operation_of, within_limits, collected_fields, collected_due, root_due, with_fault, bound_in, build_due}
-use Rattle.hq_request_build.specs.Known.{Due}
+use Rattle.hq_request_build.specs.KnownField.{Due}
 use Rattle.hq_laws_request.specs.Built.Builds.{is_constant, has_constant}
 use Rattle.hq_laws_request.specs.Built.Refusing.{IsBuilding}
 use Rattle.hq_laws_request.proofs.Built.Binding.{OfVariables, tables_told}

@@ -56,7 +56,7 @@ use Rattle.hq_request_arguments.specs.declared.refusal.ArgRefusal.TheVariants.{R
 use Rattle.hq_request_build.specs.Asked.{with_below, field_of as asked_field, part_by, fields_due, parts_due}
 use Rattle.hq_request_build.specs.Asked as due
 use Rattle.hq_request_build.specs.Heads.{leaf, list_head, key_head, aggregate_head, introspect_head, head_by}
-use Rattle.hq_request_build.specs.Known.{Due, refused, is_complete, Known, known_of, known_due, leads_to, type_name_due, name_of_type, rows_of, key_of, count_of, type_name_of, deprecated_of}
+use Rattle.hq_request_build.specs.KnownField.{Due, refused, is_complete, KnownField, known_of, known_due, leads_to, type_name_due, name_of_type, rows_of, key_of, count_of, type_name_of, deprecated_of}
 use Rattle.hq_request_build.specs.Looks.{flag_by, look_of, looks_due}
 use Rattle.hq_request_build.specs.Summaries.{taken_by, with_taken, taken_due, summary_by, with_summary, summaries_due}
 use Rattle.hq_laws_request.specs.Built.Refusing.{IsBuilding}
@@ -139,7 +139,7 @@ module _ (tables : List Table) (m : MetaTree) (metadata_fits : fits tables m ≡
 
   module _ (place t : ℕ) (h : FieldHead) (empty : Bool) (f : IsKnown place h empty) where
     -- a field whose arguments are lawful, and what follows is
-    one_building : {A : Type 0} → Lawful (by_origin c t f.def.args h.args f.def.origin) → (next : Known → Due A)
+    one_building : {A : Type 0} → Lawful (by_origin c t f.def.args h.args f.def.origin) → (next : KnownField → Due A)
         → ((x : FieldArguments) → by_origin c t f.def.args h.args f.def.origin ≡ Ok x → IsBuilding (next (f.def, x)))
         → IsBuilding (and_then next (known_due c place t h empty))
     one_building {A = A} lawful next step =
@@ -147,7 +147,7 @@ module _ (tables : List Table) (m : MetaTree) (metadata_fits : fits tables m ≡
         (by (is_complete R f.def empty) f.complete (by_origin c t f.def.args h.args f.def.origin) lawful step)
       where
         by : (b : Bool) → b ≡ true → (r : Read FieldArguments) → Lawful r → ((x : FieldArguments) → r ≡ Ok x → IsBuilding (next (f.def, x)))
-            → IsBuilding (and_then next (cond b (mapped (λ (x : FieldArguments). let y : Known = (f.def, x) in y) (at_field h.at r)) (refused rule.LeafFieldSelections h)))
+            → IsBuilding (and_then next (cond b (mapped (λ (x : FieldArguments). let y : KnownField = (f.def, x) in y) (at_field h.at r)) (refused rule.LeafFieldSelections h)))
         by true e (Ok x) l g = g x refl
         by true e (Err (Rule q)) l g = l
         by true e (Err Memory) l g = l
@@ -180,8 +180,8 @@ module _ (tables : List Table) (m : MetaTree) (metadata_fits : fits tables m ≡
   taken_building no_collected g u place t at sound = tt
   taken_building (collected k h under others) g u place t at sound =
       let both = one_taken t g u place at h sound.0.def (field_found tables m role schemed place (type.Aggregated g u) h.name sound.0.def at sound.0.known) in
-      then_building (λ (x : AggCol). mapped (with_taken k x) (taken_due c place t others)) (known_due c place t h (is_empty under) >>= λ (x : Known). taken_by c place h x.0.origin)
-      (one_building place t h (is_empty under) sound.0 both.0 (λ (x : Known). taken_by c place h x.0.origin) (λ x e. both.1))
+      then_building (λ (x : AggCol). mapped (with_taken k x) (taken_due c place t others)) (known_due c place t h (is_empty under) >>= λ (x : KnownField). taken_by c place h x.0.origin)
+      (one_building place t h (is_empty under) sound.0 both.0 (λ (x : KnownField). taken_by c place h x.0.origin) (λ x e. both.1))
       (λ x e. mapped_building (with_taken k x) (taken_due c place t others) (taken_building others g u place t at sound.2))
 
   -- ---- aggregate
@@ -232,16 +232,16 @@ module _ (tables : List Table) (m : MetaTree) (metadata_fits : fits tables m ≡
     summary_wanted def is (of_schema root n q) = absurd (not_root place (type.AggregateFields u) at (λ e. cc) root)
     summary_wanted def is (of_type root n q) = absurd (not_root place (type.AggregateFields u) at (λ e. cc) root)
 
-    one_summary : IsBuilding (known_due c place u h (is_empty under) >>= λ (k : Known). summary_by c place h k (taken_due c (leads_to k) u under) k.0.origin)
+    one_summary : IsBuilding (known_due c place u h (is_empty under) >>= λ (k : KnownField). summary_by c place h k (taken_due c (leads_to k) u under) k.0.origin)
     one_summary =
         let both = summary_wanted f.def refl (field_found tables m role schemed place (type.AggregateFields u) h.name f.def at f.known) in
-        one_building place u h (is_empty under) f both.0 (λ (k : Known). summary_by c place h k (taken_due c (leads_to k) u under) k.0.origin) both.1
+        one_building place u h (is_empty under) f both.0 (λ (k : KnownField). summary_by c place h k (taken_due c (leads_to k) u under) k.0.origin) both.1
 
   summaries_building : (trees : CollectedTrees) (u place : ℕ) → At types place (type.AggregateFields u) → IsSound place trees → IsBuilding (summaries_due c place u trees)
   summaries_building no_collected u place at sound = tt
   summaries_building (collected k h under others) u place at sound =
       then_building (λ (x : AggField). mapped (with_summary k x) (summaries_due c place u others))
-      (known_due c place u h (is_empty under) >>= λ (x : Known). summary_by c place h x (taken_due c (leads_to x) u under) x.0.origin)
+      (known_due c place u h (is_empty under) >>= λ (x : KnownField). summary_by c place h x (taken_due c (leads_to x) u under) x.0.origin)
       (one_summary u place at h under sound.0 sound.1) (λ x e. mapped_building (with_summary k x) (summaries_due c place u others) (summaries_building others u place at sound.2))
 
   -- ---- introspection
@@ -309,15 +309,15 @@ module _ (tables : List Table) (m : MetaTree) (metadata_fits : fits tables m ≡
     look_wanted def is (of_schema root n q) = absurd (not_root place type.Introspection at (λ e. cc) root)
     look_wanted def is (of_type root n q) = absurd (not_root place type.Introspection at (λ e. cc) root)
 
-    one_look : IsBuilding (known_due c place t h (is_empty under) >>= look_of h (λ (x : Known). looks_due c (leads_to x) t under))
+    one_look : IsBuilding (known_due c place t h (is_empty under) >>= look_of h (λ (x : KnownField). looks_due c (leads_to x) t under))
     one_look =
         let both = look_wanted f.def refl (field_found tables m role schemed place type.Introspection h.name f.def at f.known) in
-        one_building place t h (is_empty under) f both.0 (look_of h (λ (x : Known). looks_due c (leads_to x) t under)) both.1
+        one_building place t h (is_empty under) f both.0 (look_of h (λ (x : KnownField). looks_due c (leads_to x) t under)) both.1
 
   looks_building : (trees : CollectedTrees) (place t : ℕ) → At types place type.Introspection → IsSound place trees → IsBuilding (looks_due c place t trees)
   looks_building no_collected place t at sound = tt
   looks_building (collected k h under others) place t at sound =
-      then_building (λ x. mapped (looks k x) (looks_due c place t others)) (known_due c place t h (is_empty under) >>= look_of h (λ (x : Known). looks_due c (leads_to x) t under))
+      then_building (λ x. mapped (looks k x) (looks_due c place t others)) (known_due c place t h (is_empty under) >>= look_of h (λ (x : KnownField). looks_due c (leads_to x) t under))
       (one_look place t at h under sound.0 (λ there. looks_building under (base sound.0.def.ty) t there sound.1))
       (λ x e. mapped_building (looks k x) (looks_due c place t others) (looks_building others place t at sound.2))
 
@@ -329,7 +329,7 @@ module _ (tables : List Table) (m : MetaTree) (metadata_fits : fits tables m ≡
     parts : (place u : ℕ) → At types place (type.Aggregate u) → IsSound place under → IsBuilding (parts_due c place u under)
 
   -- what stands below one, as it is asked for
-  abbrev below_of : (t : ℕ) → CollectedTrees → Known → due.Below
+  abbrev below_of : (t : ℕ) → CollectedTrees → KnownField → due.Below
   below_of t under k = record {
     fields = λ u. fields_due c (leads_to k) u under;
     parts = λ u. parts_due c (leads_to k) u under;
@@ -450,10 +450,10 @@ module _ (tables : List Table) (m : MetaTree) (metadata_fits : fits tables m ≡
     part_wanted o at = absurd at
 
     one_part : At types place (type.Aggregate t)
-        → IsBuilding (known_due c place t h (is_empty under) >>= λ (k : Known). part_by c place h (summaries_due c (leads_to k) t under) (fields_due c (leads_to k) t under) k.0.origin)
+        → IsBuilding (known_due c place t h (is_empty under) >>= λ (k : KnownField). part_by c place h (summaries_due c (leads_to k) t under) (fields_due c (leads_to k) t under) k.0.origin)
     one_part at =
         let both = by f.def refl (field_found tables m role schemed place (type.Aggregate t) h.name f.def at f.known) in
-        one_building place t h (is_empty under) f both.0 (λ (k : Known). part_by c place h (summaries_due c (leads_to k) t under) (fields_due c (leads_to k) t under) k.0.origin) both.1
+        one_building place t h (is_empty under) f both.0 (λ (k : KnownField). part_by c place h (summaries_due c (leads_to k) t under) (fields_due c (leads_to k) t under) k.0.origin) both.1
       where
         by : (def : FieldTree) → f.def ≡ def → Found tables m role schemed place (type.Aggregate t) h.name def → PartWanted f.def.origin
         by def is (own i) = let j : IsField tables m role schemed (type.Aggregate t) f.def = subst (IsField tables m role schemed (type.Aggregate t)) (sym is) i in
@@ -557,7 +557,7 @@ module _ (tables : List Table) (m : MetaTree) (metadata_fits : fits tables m ≡
       → IsBuilding (parts_due c place u (collected k h under others))
   parts_of_all k h under others inner rest place u at sound =
       then_building (λ x. mapped (part k x) (parts_due c place u others))
-      (known_due c place u h (is_empty under) >>= λ (x : Known). part_by c place h (summaries_due c (leads_to x) u under) (fields_due c (leads_to x) u under) x.0.origin)
+      (known_due c place u h (is_empty under) >>= λ (x : KnownField). part_by c place h (summaries_due c (leads_to x) u under) (fields_due c (leads_to x) u under) x.0.origin)
       (one_part place u h under inner sound.0 sound.1 (field_like place (type.Aggregate u) h.name sound.0.def at sound.0.known) at)
       (λ x e. mapped_building (part k x) (parts_due c place u others) (rest.parts place u at sound.2))
 

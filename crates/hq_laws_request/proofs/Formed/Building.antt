@@ -43,7 +43,7 @@ use Rattle.hq_request_build.specs.Bound.{bounds_due}
 use Rattle.hq_request_build.specs.Laws.{request_of, IsBound, BoundForSession}
 use Rattle.hq_request_build.specs.Asked.{fields_due}
 use Rattle.hq_request_build.specs.Due.{operation_of, collected_due, with_fault, bound_in, build_due}
-use Rattle.hq_request_build.specs.Known.{Due}
+use Rattle.hq_request_build.specs.KnownField.{Due}
 use Rattle.hq_laws_request.specs.Formed.Built.{IsBuilt, AreShallow}
 use Rattle.hq_laws_request.proofs.Formed.Binding.{entries_bound}
 use Rattle.hq_laws_request.proofs.Formed.Collecting.{operation_low, heads_low, are_kept}

@@ -28,7 +28,7 @@ use Rattle.hq_request_tree.specs.IntrospectionTypes as asked
 use Rattle.hq_request_tree.specs.Levels.{look_levels, looks_levels}
 use Rattle.hq_request_tree.specs.ResponseKeys.{are_keys}
 use Rattle.hq_request_arguments.specs.Context.{Context}
-use Rattle.hq_request_build.specs.Known.{Due, is_complete, Known, known_due, leads_to}
+use Rattle.hq_request_build.specs.KnownField.{Due, is_complete, KnownField, known_due, leads_to}
 use Rattle.hq_request_build.specs.Looks.{flag_by, look_of, looks_due}
 use Rattle.hq_laws_request.proofs.Formed.Kept.{AreKept}
 use Rattle.hq_laws_request.proofs.Formed.Knowing.{known_is}
@@ -265,7 +265,7 @@ module _ (tables : List Table) (m : MetaTree) (role : Role) (vars : List VarTree
   fields_are f type is name = cc
 
   module _ (f : Fixed) (type : MetaType) (is : meta_of f ≡ Some type) (t : ℕ) (h : FieldHead) (below : CollectedTrees) (inner : Inner below)
-      (apart : are_keys (keys_of below) ≡ true) (k : Known) (complete : is_complete R k.0 (is_empty below) ≡ true) where
+      (apart : are_keys (keys_of below) ≡ true) (k : KnownField) (complete : is_complete R k.0 (is_empty below) ≡ true) where
     -- what stands below it is accepted where its name is found
     accepted_by : (o : Option MetaType) → asked.meta_field type h.name ≡ Some o → (ls : IntrospectionTrees) → Accepted below o ls
         → (deprecated : Bool) → OneLooked type below (look h.name None deprecated ls)
@@ -310,12 +310,12 @@ module _ (tables : List Table) (m : MetaTree) (role : Role) (vars : List VarTree
       → (ls : IntrospectionTrees) → looks_due c (fixed_place f) t trees ≡ Ok ls → Looked type trees ls
   looks_fit no_collected kept t f type is ls e = let same : no_look ≡ ls = cc in subst (Looked type no_collected) same (record { accepted = refl; keys = refl; levels = omega arith })
   looks_fit (collected key h below others) kept t f type is ls e =
-      let next : Known → Due IntrospectionTree = look_of h (λ (k : Known). looks_due c (leads_to k) t below) in
+      let next : KnownField → Due IntrospectionTree = look_of h (λ (k : KnownField). looks_due c (leads_to k) t below) in
       let due = known_due c (fixed_place f) t h (is_empty below) >>= next in
       let one = then_ok (λ x. mapped (looks key x) (looks_due c (fixed_place f) t others)) due ls e in
       let two = mapped_ok (looks key one.0) (looks_due c (fixed_place f) t others) ls one.2 in
       let three = then_ok next (known_due c (fixed_place f) t h (is_empty below)) one.0 one.1 in
-      let k : Known = three.0 in
+      let k : KnownField = three.0 in
       let known = known_is c (fixed_place f) t h (is_empty below) k three.1 in
       let four = then_ok (λ deprecated. mapped (look h.name None deprecated) (looks_due c (leads_to k) t below)) (flag_by h k k.0.origin) one.0 three.2 in
       let five = mapped_ok (look h.name None four.0) (looks_due c (leads_to k) t below) one.0 four.2 in

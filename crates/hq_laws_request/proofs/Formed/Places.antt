@@ -17,7 +17,7 @@ use Rattle.hq_schema_roles.specs.Access.{Access, access_of}
 use Rattle.hq_schema_roles.specs.Leads.{ArgFits, FieldFits, TypeFits, ColumnsFit, input_target}
 use Rattle.hq_gql_nodes.specs.Known.{known_field, meta_field}
 use Rattle.hq_gql_tree.specs.Selections.{FieldHead}
-use Rattle.hq_request_build.specs.Known.{name_of_type, type_name_due}
+use Rattle.hq_request_build.specs.KnownField.{name_of_type, type_name_due}
 use Rattle.hq_laws_request.proofs.Formed.Items.{each_at, found_each}
 use Rattle.hq_laws_request.proofs.Formed.Standing.{Stands, SeenBy, NamedBy, TakenBy}
 use Rattle.hq_laws_request.proofs.Formed.BuildingSteps.{map_some, and_then_some, same_text}

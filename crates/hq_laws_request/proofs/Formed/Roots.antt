@@ -44,7 +44,7 @@ use Rattle.hq_request_arguments.specs.FieldArguments as given
 use Rattle.hq_request_arguments.specs.Keys.{key_due}
 use Rattle.hq_request_build.specs.Asked.{with_below, field_of, fields_due}
 use Rattle.hq_request_build.specs.Heads.{leaf, key_head, introspect_head, head_by}
-use Rattle.hq_request_build.specs.Known.{Due, is_complete, Known, known_due, leads_to, key_of, type_name_due, type_name_of}
+use Rattle.hq_request_build.specs.KnownField.{Due, is_complete, KnownField, known_due, leads_to, key_of, type_name_due, type_name_of}
 use Rattle.hq_request_build.specs.Looks.{looks_due}
 use Rattle.hq_laws_request.specs.Formed.ObjectsNest.{objects_nest}
 use Rattle.hq_laws_request.proofs.Formed.Kept.{AreKept}
@@ -99,7 +99,7 @@ module _ (tables : List Table) (m : MetaTree) (metadata_fits : fits tables m ≡
     levels : field_levels f ≤ suc (levels_of below)
 
   module _ (h : FieldHead) (below : CollectedTrees) (shallow : arguments_nest h.args ≤ 50) (apart : are_keys (collect.keys_of below) ≡ true)
-      (kept : AreKept below) (k : Known) (complete : is_complete R k.0 (is_empty below) ≡ true) where
+      (kept : AreKept below) (k : KnownField) (complete : is_complete R k.0 (is_empty below) ≡ true) where
     inner : Inner tables m metadata_fits role schemed vars low below
     inner = all_fit tables m metadata_fits role schemed vars low below kept
 
@@ -235,7 +235,7 @@ module _ (tables : List Table) (m : MetaTree) (metadata_fits : fits tables m ≡
   pub roots_fit : (trees : CollectedTrees) → AreKept trees → (fs : FieldTrees) → fields_due c R.query root trees ≡ Ok fs → AllRoots trees fs
   roots_fit no_collected kept fs e = let same : no_field ≡ fs = cc in subst (AllRoots no_collected) same (record { every = tt; keys = refl; levels = omega arith })
   roots_fit (collected key h below others) kept fs e =
-      let next : Known → Due FieldTree = field_of c R.query root h (below_of c root below) in
+      let next : KnownField → Due FieldTree = field_of c R.query root h (below_of c root below) in
       let due = known_due c R.query root h (is_empty below) >>= next in
       let one = then_ok (λ f. mapped (field key f) (fields_due c R.query root others)) due fs e in
       let two = mapped_ok (field key one.0) (fields_due c R.query root others) fs one.2 in

@@ -38,7 +38,7 @@ use Rattle.hq_request_arguments.specs.FieldArguments.{FieldArguments, rows}
 use Rattle.hq_request_build.specs.Asked.{with_below, field_of, part_by, fields_due, parts_due}
 use Rattle.hq_request_build.specs.Asked as due
 use Rattle.hq_request_build.specs.Heads.{leaf, list_head, aggregate_head, head_by}
-use Rattle.hq_request_build.specs.Known.{Due, Known, known_due, leads_to, rows_of, type_name_due}
+use Rattle.hq_request_build.specs.KnownField.{Due, KnownField, known_due, leads_to, rows_of, type_name_due}
 use Rattle.hq_request_build.specs.Looks.{looks_due}
 use Rattle.hq_request_build.specs.Summaries.{summaries_due}
 use Rattle.hq_laws_request.specs.Formed.ObjectsNest.{objects_nest}
@@ -51,7 +51,7 @@ use Rattle.hq_laws_request.proofs.Formed.BuildingSteps.{mapped_ok, then_ok, equa
 use Rattle.hq_laws_request.proofs.Formed.Summing.{summaries_fit}
 
 -- what stands below a field
-abbrev pub below_of : Context → (t : ℕ) → CollectedTrees → Known → due.Below
+abbrev pub below_of : Context → (t : ℕ) → CollectedTrees → KnownField → due.Below
 below_of c t below k = record {
   fields = λ u. fields_due c (leads_to k) u below;
   parts = λ u. parts_due c (leads_to k) u below;
@@ -138,7 +138,7 @@ module _ (tables : List Table) (m : MetaTree) (metadata_fits : fits tables m ≡
     pub all : AllParts below u parts
     pub apart : are_keys (part_keys parts) ≡ true
 
-  module _ (h : FieldHead) (below : CollectedTrees) (shallow : arguments_nest h.args ≤ 50) (apart : are_keys (collect.keys_of below) ≡ true) (inner : Inner below) (k : Known) where
+  module _ (h : FieldHead) (below : CollectedTrees) (shallow : arguments_nest h.args ≤ 50) (apart : are_keys (collect.keys_of below) ≡ true) (inner : Inner below) (k : KnownField) where
     -- the arguments of a list
     rows_are : (u : ℕ) → Each (ArgFits types (list_target (Some u))) k.0.args → mapped rows (list_due c k.0.args h.args u) ≡ Ok k.1
         → (la : ListArguments) × (rows la ≡ k.1) × ListFits tables m metadata_fits role schemed vars low u la
@@ -340,7 +340,7 @@ module _ (tables : List Table) (m : MetaTree) (metadata_fits : fits tables m ≡
       → Inner others → (place t : ℕ) → At types place (type.Rows t) → (fs : FieldTrees)
       → fields_due c place t (collected key h below others) ≡ Ok fs → AllRows (collected key h below others) t fs
   rows_one key h below others kept inner later place t at fs e =
-      let next : Known → Due FieldTree = field_of c place t h (below_of c t below) in
+      let next : KnownField → Due FieldTree = field_of c place t h (below_of c t below) in
       let due = known_due c place t h (is_empty below) >>= next in
       let one = then_ok (λ f. mapped (field key f) (fields_due c place t others)) due fs e in
       let two = mapped_ok (field key one.0) (fields_due c place t others) fs one.2 in
@@ -359,7 +359,7 @@ module _ (tables : List Table) (m : MetaTree) (metadata_fits : fits tables m ≡
       → Inner others → (place u : ℕ) → At types place (type.Aggregate u) → (ps : PartTrees)
       → parts_due c place u (collected key h below others) ≡ Ok ps → AllParts (collected key h below others) u ps
   parts_one key h below others kept inner later place u at ps e =
-      let next : Known → Due PartTree = λ k. part_by c place h (summaries_due c (leads_to k) u below) (fields_due c (leads_to k) u below) k.0.origin in
+      let next : KnownField → Due PartTree = λ k. part_by c place h (summaries_due c (leads_to k) u below) (fields_due c (leads_to k) u below) k.0.origin in
       let due = known_due c place u h (is_empty below) >>= next in
       let one = then_ok (λ p. mapped (part key p) (parts_due c place u others)) due ps e in
       let two = mapped_ok (part key one.0) (parts_due c place u others) ps one.2 in

@@ -48,7 +48,7 @@ use Rattle.hq_request_arguments.specs.Due.{counting, count_due, by_origin}
 use Rattle.hq_request_arguments.specs.FieldArguments.{FieldArguments, count}
 use Rattle.hq_request_arguments.specs.Plain.{flag_due}
 use Rattle.hq_request_arguments.specs.Reading.{Given, given_named}
-use Rattle.hq_request_build.specs.Known.{Due, Known, known_due, leads_to, type_name_due, count_of}
+use Rattle.hq_request_build.specs.KnownField.{Due, KnownField, known_due, leads_to, type_name_due, count_of}
 use Rattle.hq_request_build.specs.Summaries.{taken_by, with_taken, taken_due, summary_by, with_summary, summaries_due}
 use Rattle.hq_laws_request.specs.Formed.ObjectsNest.{objects_nest}
 use Rattle.hq_laws_request.proofs.Formed.Kept.{AreKept}
@@ -136,7 +136,7 @@ module _ (tables : List Table) (m : MetaTree) (metadata_fits : fits tables m ≡
         let due = known_due c place t h (is_empty below) >>= λ k. taken_by c place h k.0.origin in
         let one = then_ok (λ f. mapped (with_taken key f) (taken_due c place t others)) due cs e in
         let two = mapped_ok (with_taken key one.0) (taken_due c place t others) cs one.2 in
-        let three = then_ok (λ (k : Known). taken_by c place h k.0.origin) (known_due c place t h (is_empty below)) one.0 one.1 in
+        let three = then_ok (λ (k : KnownField). taken_by c place h k.0.origin) (known_due c place t h (is_empty below)) one.0 one.1 in
         let known = known_is c place t h (is_empty below) three.0 three.1 in
         let f = one_taken place h at three.0.0 (field_found tables m role schemed place owner h.name three.0.0 at known.found) one.0 three.2 in
         let later = taken_fits others place t at two.0 two.1 in
@@ -195,7 +195,7 @@ module _ (tables : List Table) (m : MetaTree) (metadata_fits : fits tables m ≡
     taken_keys : (cs : List KeyedAggCol) (below : CollectedTrees) → map (λ x. x.key) cs ≡ keys_of below → are_keys (keys_of below) ≡ true → are_keys (map (λ x. x.key) cs) ≡ true
     taken_keys cs below same apart = ap are_keys same ∙ apart
 
-    module _ (place : ℕ) (h : FieldHead) (below : CollectedTrees) (shallow : arguments_nest h.args ≤ 50) (apart : are_keys (keys_of below) ≡ true) (k : Known) where
+    module _ (place : ℕ) (h : FieldHead) (below : CollectedTrees) (shallow : arguments_nest h.args ≤ 50) (apart : are_keys (keys_of below) ≡ true) (k : KnownField) where
       own_summary : (o : FieldOrigin) → Reaches types k.0.ty (over_target u o) → Each (ArgFits types (over_args u o)) k.0.args → by_origin c u k.0.args h.args o ≡ Ok k.1
           → (f : AggField) → summary_by c place h k (taken_due c (leads_to k) u below) o ≡ Ok f → OneSummary below f
       own_summary origin.Count at args due f e = count_summary below k.0.args h args shallow k.1 due f e
@@ -231,7 +231,7 @@ module _ (tables : List Table) (m : MetaTree) (metadata_fits : fits tables m ≡
         ≡ fs = cc in subst (Summary no_collected) same
         (record { uses = tt; fit = refl; keys = refl; each_keys = tt; named = tt; levels = omega arith })
     summaries_fit (collected key h below others) kept place at fs e =
-        let next : Known → Due AggField = λ k. summary_by c place h k (taken_due c (leads_to k) u below) k.0.origin in
+        let next : KnownField → Due AggField = λ k. summary_by c place h k (taken_due c (leads_to k) u below) k.0.origin in
         let due = known_due c place u h (is_empty below) >>= next in
         let one = then_ok (λ f. mapped (with_summary key f) (summaries_due c place u others)) due fs e in
         let two = mapped_ok (with_summary key one.0) (summaries_due c place u others) fs one.2 in

@@ -9,7 +9,7 @@ ghost use Rattle.hq_rules_fields.specs.NodeRules.{lacks_input, lacks_at, object_
 
 use crate::literals::object_members;
 use crate::required::lacks_any;
-use hq_gql_nodes::{Node, Place, at_if, input_of};
+use hq_gql_nodes::{Node, ValuePlace, at_if, input_of};
 use hq_gql_tree::{Argument, Value};
 use hq_schema::{Schema, TypeId};
 
@@ -23,7 +23,7 @@ fn lacks_input(schema: &Schema, members: &[Argument], t: usize) -> bool
 }
 
 // Whether the members of an object at a place lack a required input field.
-fn lacks_at(schema: &Schema, members: &[Argument], place: Option<Place<'_>>) -> bool
+fn lacks_at(schema: &Schema, members: &[Argument], place: Option<ValuePlace<'_>>) -> bool
     ensures { result ≡ option_map_or (lacks_input (schema_view schema.now) (map argument_view members.now)) (input_of (schema_view schema.now) (option_map place_view place.entry)) false }
 {
     match input_of(schema, place) {
@@ -32,7 +32,7 @@ fn lacks_at(schema: &Schema, members: &[Argument], place: Option<Place<'_>>) -> 
     }
 }
 
-fn is_wrong(schema: &Schema, value: &Value, place: Option<Place<'_>>) -> bool
+fn is_wrong(schema: &Schema, value: &Value, place: Option<ValuePlace<'_>>) -> bool
     ensures { result ≡ option_map_or (lacks_at (schema_view schema.now) (option_map place_view place.entry)) (object_members (value_view value.now)) false }
 {
     match object_members(value) {

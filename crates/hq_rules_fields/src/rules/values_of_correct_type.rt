@@ -7,7 +7,7 @@ ghost use Rattle.hq_gql_nodes.specs.Nodes.{node_view};
 ghost use Rattle.hq_rules_fields.specs.NodeRules.{is_float, is_wrong_value, values_of_correct_type};
 
 use crate::literals::takes;
-use hq_gql_nodes::{Node, Place, at_if};
+use hq_gql_nodes::{Node, ValuePlace, at_if};
 use hq_gql_tree::Value;
 use hq_schema::Schema;
 
@@ -17,7 +17,7 @@ fn is_float(value: &Value) -> bool
     matches!(value, Value::Float(_))
 }
 
-fn is_wrong_value(schema: &Schema, place: Option<Place<'_>>, value: &Value) -> bool
+fn is_wrong_value(schema: &Schema, place: Option<ValuePlace<'_>>, value: &Value) -> bool
     ensures { result ≡ is_wrong_value (schema_view schema.now) (option_map place_view place.entry) (value_view value.now) }
 {
     match place {

@@ -5,7 +5,7 @@ use Rattle.hq_model.specs.Schema.{schema_of, schema_table}
 use Rattle.hq_request_tree.specs.Root.{table_fields}
 use Rattle.hq_translation.specs.Correct.{AreFew}
 use Rattle.hq_translation.specs.Fields.{fields_numbers}
-use Rattle.hq_translation.specs.Rights.{Rights}
+use Rattle.hq_translation.specs.GrantedTables.{GrantedTables}
 use Rattle.hq_compile_tables.specs.Contexts.{rights_in}
 use Rattle.hq_compile.proofs.Requests.{few_tables, numbered_long}
 use Rattle.hq_compile.specs.Fields.{fields_view}
@@ -26,7 +26,7 @@ returns-clause-held c =
     let few : AreFew fs s (length s) = subst (λ (r : ℕ). AreFew fs s r) root-is c.in_ok-count_fields.ensures in
     on_ok_weaker c.statement.result
     (λ numbers. (
-      subst (λ (g : Rights). 1 + fields_numbers (table_fields fs) s g (length s) ≤ 2 ^ 64) c.in_ok-granted.ensures
+      subst (λ (g : GrantedTables). 1 + fields_numbers (table_fields fs) s g (length s) ≤ 2 ^ 64) c.in_ok-granted.ensures
           (subst (λ (r : ℕ). 1 + fields_numbers (table_fields fs) s given r ≤ 2 ^ 64) root-is numbers),
       few_tables s (length s) fs few,
     ))

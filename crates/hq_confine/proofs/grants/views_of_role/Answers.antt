@@ -5,7 +5,7 @@ use Rattle.hq_model.specs.Grants.{grant_of, grants_of}
 use Rattle.hq_model.specs.Meta.{meta_view}
 use Rattle.hq_model.specs.PermView.{permission_view}
 use Rattle.hq_model.specs.Schema.{no_table, schema_table}
-use Rattle.hq_model.specs.Scope.{scope_schema}
+use Rattle.hq_model.specs.Described.{scope_schema}
 use Rattle.hq_confine.proofs.Granted.{granted_more, granted_all}
 use Rattle.hq_confine_uses.proofs.Places.{length-numbered}
 use Rattle.hq_confine.proofs.grants.views_of_role.Goals as goal

@@ -4,7 +4,7 @@ use Rattle.hq_model.specs.Grants.{grant_of, grants_of}
 use Rattle.hq_model.specs.Meta.{meta_view}
 use Rattle.hq_model.specs.PermView.{permission_view}
 use Rattle.hq_model.specs.Schema.{numbered}
-use Rattle.hq_model.specs.Scope.{scope_schema}
+use Rattle.hq_model.specs.Described.{scope_schema}
 use Rattle.hq_confine.proofs.grants.views_of_role.Given as goal
 
 -- what is granted of the tables so far, and then of those that are left

@@ -1,7 +1,7 @@
 use Rattle.std.proofs.Common.{◌∙◌, sym, subst, ◌+◌, List, take, arith}
 use Rattle.hq_live.specs.Asking.{Due}
 use Rattle.hq_live.specs.Answers.{IsAnswer, AreAnswers}
-use Rattle.hq_live.specs.declared.answer.Answer.{Answer}
+use Rattle.hq_live.specs.declared.answer.Polled.{Polled}
 use Rattle.hq_live.proofs.Answers.{answers_step}
 use Rattle.hq_live.proofs.answer.ask_all.Goals as goal
 
@@ -17,7 +17,7 @@ asking-preserved g c =
     let s = c.subscription-item.result in
     let a = c.in_ok-answer.answer in
     let One : Due → Type 0 = λ d. IsAnswer d s between now a in
-    let All : List Answer → Type 0 = λ l. AreAnswers due before now (take (at + 1) subs) l in
+    let All : List Polled → Type 0 = λ l. AreAnswers due before now (take (at + 1) subs) l in
     let one = subst One c.asking.invariant.due c.in_ok-answer.ensures.answer in
     let all = answers_step due before between now subs at c.asking.answers.items s a c.asking-test.true c.subscription-item.is c.asking.invariant.so_far one in
     record {

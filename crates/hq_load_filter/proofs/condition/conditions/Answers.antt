@@ -4,7 +4,7 @@ use Rattle.hq_base.specs.Json.{json_view}
 use Rattle.hq_base.specs.Path.{member_path}
 use Rattle.hq_model.specs.Bexp.{bexp_view}
 use Rattle.hq_model.specs.Schema.{table, column}
-use Rattle.hq_model.specs.Scope.{scope_schema}
+use Rattle.hq_model.specs.Described.{scope_schema}
 use Rattle.hq_load_filter.specs.Condition.{written_on}
 use Rattle.hq_load_filter.proofs.Elements.{each_member-more}
 use Rattle.hq_load_filter.proofs.condition.conditions.Goals as goal

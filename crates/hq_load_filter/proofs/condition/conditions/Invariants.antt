@@ -3,7 +3,7 @@ use Rattle.hq_base.specs.Due.{mapped}
 use Rattle.hq_base.specs.Json.{member_view}
 use Rattle.hq_model.specs.Bexp.{bexp_view}
 use Rattle.hq_model.specs.Schema.{table, column}
-use Rattle.hq_model.specs.Scope.{scope_schema}
+use Rattle.hq_model.specs.Described.{scope_schema}
 use Rattle.hq_load_filter.specs.Condition.{written_on}
 use Rattle.hq_load_filter.specs.Each.{each_member}
 use Rattle.hq_load_filter.proofs.condition.conditions.Given as goal

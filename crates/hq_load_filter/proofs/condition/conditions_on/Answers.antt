@@ -3,7 +3,7 @@ use Rattle.hq_base.specs.Due.{mapped}
 use Rattle.hq_base.specs.Json.{json_view, member_view}
 use Rattle.hq_model.specs.Bexp.{conjunction}
 use Rattle.hq_model.specs.Schema.{table, column}
-use Rattle.hq_model.specs.Scope.{scope_schema}
+use Rattle.hq_model.specs.Described.{scope_schema}
 use Rattle.hq_load_filter.proofs.Columns.{of_object}
 use Rattle.hq_load_filter.proofs.condition.conditions_on.Goals as goal
 

@@ -66,7 +66,8 @@ loop-place-preserved c =
           (zip_more c.args.tables.now js c.loop-place.place c.index-tables-place.result entry c.loop-place-test.true
           c.index-tables-place.is there))
           (subst (λ ps. AllZip R (zip (take c.loop-place.place c.args.tables.now) js ++ (c.index-tables-place.result, entry) ∷ []) ps) (sym grown)
-          (all_zipped_more R (zip (take c.loop-place.place c.args.tables.now) js) (map (map perm_view) c.loop-place.all) (c.index-tables-place.result, entry) perms c.loop-place.invariant.sound c.in_ok-perms_at.ensures.sound));
+          (all_zipped_more R (zip (take c.loop-place.place c.args.tables.now) js) (map (map perm_view) c.loop-place.all)
+          (c.index-tables-place.result, entry) perms c.loop-place.invariant.sound c.in_ok-perms_at.ensures.sound));
     }
 
 pub loop-place-preserved-in_default : goal.loop-place-preserved-in_default

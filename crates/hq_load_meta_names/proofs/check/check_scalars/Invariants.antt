@@ -1,6 +1,6 @@
 use Rattle.std.proofs.Common.{◌≡◌, drop, map}
 use Rattle.hq_model.specs.Meta.{tracked_view}
-use Rattle.hq_model.specs.Scope.{scope_schema}
+use Rattle.hq_model.specs.Described.{scope_schema}
 use Rattle.hq_load_meta_names.specs.Repeats.{scalars_due}
 use Rattle.hq_load_meta_names.proofs.check.check_scalars.Given as goal
 

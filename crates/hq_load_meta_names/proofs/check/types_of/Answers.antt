@@ -3,7 +3,7 @@ use Rattle.std.proofs.lemmas.Result.{IfOk-weaker}
 use Rattle.hq_base.specs.Aggregates.{all_aggregates}
 use Rattle.hq_model.specs.Meta.{tracked_view}
 use Rattle.hq_model.specs.SchemaNames.{has_columns}
-use Rattle.hq_model.specs.Scope.{scope_schema}
+use Rattle.hq_model.specs.Described.{scope_schema}
 use Rattle.hq_load_meta_names.specs.Types.{is_over, types_by}
 use Rattle.hq_load_meta_names.proofs.check.types_of.Goals as goal
 

@@ -1,6 +1,6 @@
 use Rattle.std.proofs.Common.{◌≡◌, drop, map}
 use Rattle.hq_model.specs.Meta.{meta_view, tracked_view}
-use Rattle.hq_model.specs.Scope.{scope_schema}
+use Rattle.hq_model.specs.Described.{scope_schema}
 use Rattle.hq_load_meta_names.specs.Repeats.{with_tables}
 use Rattle.hq_load_meta_names.proofs.check.with_tables.Given as goal
 

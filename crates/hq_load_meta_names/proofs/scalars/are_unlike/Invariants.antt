@@ -2,7 +2,7 @@ use Rattle.std.proofs.Common.{◌≡◌, drop}
 use Rattle.std.specs.List.{list_all}
 use Rattle.hq_model.specs.Schema.{column}
 use Rattle.hq_model.specs.SchemaNames.{is_unlike, scalar_of}
-use Rattle.hq_model.specs.Scope.{scope_schema}
+use Rattle.hq_model.specs.Described.{scope_schema}
 use Rattle.hq_load_meta_names.proofs.scalars.are_unlike.Given as goal
 
 -- all that are left pass, if all do

@@ -1,7 +1,7 @@
 use Rattle.std.proofs.Common.{◌∙◌, ap, sym}
 use Rattle.hq_model.specs.Schema.{no_column, table}
 use Rattle.hq_model.specs.SchemaNames.{is_unlike, scalar_of}
-use Rattle.hq_model.specs.Scope.{scope_schema}
+use Rattle.hq_model.specs.Described.{scope_schema}
 use Rattle.hq_model.proofs.Places.{present, absent}
 use Rattle.hq_load_meta_names.proofs.scalars.column_is_unlike.Goals as goal
 

@@ -1,5 +1,5 @@
 use Rattle.std.proofs.Common.{◌≡◌, ◌++◌, filter, drop}
-use Rattle.hq_model.specs.Scope.{scope_schema}
+use Rattle.hq_model.specs.Described.{scope_schema}
 use Rattle.hq_load_meta_names.specs.Types.{is_over}
 use Rattle.hq_load_meta_names.proofs.shown.those_over.Given as goal
 

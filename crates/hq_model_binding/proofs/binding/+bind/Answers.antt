@@ -3,7 +3,7 @@ use Rattle.std.specs.Prelude.{◌⊎◌}
 use Rattle.std.proofs.lemmas.List.{map-append}
 use Rattle.hq_model.specs.Bexp.{bexp_view, bexps_of}
 use Rattle.hq_model.specs.Binding.{bound, bound_all}
-use Rattle.hq_model.specs.Scope.{scope_schema}
+use Rattle.hq_model.specs.Described.{scope_schema}
 use Rattle.hq_model.specs.declared.bexp.Bexp.{Bexp}
 use Rattle.hq_model.specs.declared.bind.BindRefusal.{BindRefusal}
 use Rattle.hq_model.specs.declared.bind.BindRefusal.TheVariants.{Memory}

@@ -2,7 +2,7 @@ use Rattle.std.proofs.Common.{◌≡◌, ◌++◌, drop, map}
 use Rattle.hq_base.specs.Due.{mapped}
 use Rattle.hq_model.specs.Bexp.{bexp_view, bexps_of}
 use Rattle.hq_model.specs.Binding.{bound_all}
-use Rattle.hq_model.specs.Scope.{scope_schema}
+use Rattle.hq_model.specs.Described.{scope_schema}
 use Rattle.hq_model_binding.proofs.binding.+bind.Given as goal
 
 abbrev pub invariant-bind_bexps-loop-bexp : goal.invariant-bind_bexps-loop-bexp

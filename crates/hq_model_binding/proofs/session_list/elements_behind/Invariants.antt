@@ -1,7 +1,7 @@
 use Rattle.std.proofs.Common.{◌≡◌, [], drop}
 use Rattle.hq_model.specs.SessionLists.{elements_from}
 use Rattle.hq_model_binding.specs.SessionReading.{read_on}
-use Rattle.hq_model.specs.declared.session_list.Place.TheVariants.{Before}
+use Rattle.hq_model.specs.declared.session_list.ListState.TheVariants.{Before}
 use Rattle.hq_model_binding.proofs.session_list.elements_behind.Given as goal
 
 -- the reader reads what is left as the whole is read

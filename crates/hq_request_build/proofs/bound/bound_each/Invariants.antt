@@ -2,7 +2,7 @@ use Rattle.std.proofs.Common.{◌≡◌, ◌++◌, drop, map}
 use Rattle.hq_request_tree.specs.Request.{bound_view}
 use Rattle.hq_base.specs.Due.{mapped}
 use Rattle.hq_model.specs.Meta.{meta_view}
-use Rattle.hq_model.specs.Scope.{scope_schema}
+use Rattle.hq_model.specs.Described.{scope_schema}
 use Rattle.hq_request_build.specs.Bound.{bounds_due}
 use Rattle.hq_request_build.proofs.bound.bound_each.Given as goal
 

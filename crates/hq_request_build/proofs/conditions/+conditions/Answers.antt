@@ -2,7 +2,7 @@ use Rattle.std.proofs.Common.{refl, map, List}
 use Rattle.hq_request_tree.specs.Touched.{condition_tables, conditions_tables}
 use Rattle.hq_model.specs.Bexp.{bexp_view, bexps_of}
 use Rattle.hq_model.specs.Schema.{Schema}
-use Rattle.hq_model.specs.Scope.{scope_schema}
+use Rattle.hq_model.specs.Described.{scope_schema}
 use Rattle.hq_model.specs.declared.bexp.Bexp.{Bexp}
 use Rattle.hq_request_build.proofs.Joined.{one_more}
 use Rattle.hq_request_build.proofs.conditions.+conditions.Goals as goal

@@ -1,6 +1,6 @@
 use Rattle.std.proofs.Common.{◌≡◌, map, drop}
 use Rattle.hq_model.specs.Bexp.{bexp_view, bexps_of}
-use Rattle.hq_model.specs.Scope.{scope_schema}
+use Rattle.hq_model.specs.Described.{scope_schema}
 use Rattle.hq_request_tree.specs.Touched.{conditions_tables}
 use Rattle.hq_request_build.specs.Joined.{joined}
 use Rattle.hq_request_build.proofs.conditions.+conditions.Given as goal

@@ -1,5 +1,5 @@
 use Rattle.std.proofs.Common.{◌≡◌, drop}
-use Rattle.hq_model.specs.Scope.{scope_schema}
+use Rattle.hq_model.specs.Described.{scope_schema}
 use Rattle.hq_request_tree.specs.Touched.{path_tables}
 use Rattle.hq_request_build.specs.Joined.{joined}
 use Rattle.hq_request_build.proofs.conditions.touch_path.Given as goal

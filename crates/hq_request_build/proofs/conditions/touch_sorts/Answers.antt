@@ -3,7 +3,7 @@ use Rattle.hq_request_tree.specs.Touched.{path_tables}
 use Rattle.hq_request_tree.specs.Arguments.{sort_view}
 use Rattle.hq_request_tree.specs.declared.arguments.Sort.{Sort}
 use Rattle.hq_model.specs.Schema.{Schema}
-use Rattle.hq_model.specs.Scope.{scope_schema}
+use Rattle.hq_model.specs.Described.{scope_schema}
 use Rattle.hq_request_build.specs.Joined.{joined, sorts_tables}
 use Rattle.hq_request_build.proofs.Joined.{one_more}
 use Rattle.hq_request_build.proofs.conditions.touch_sorts.Goals as goal

@@ -1,6 +1,6 @@
 use Rattle.std.proofs.Common.{◌≡◌, map, drop}
 use Rattle.hq_request_tree.specs.Arguments.{sort_view}
-use Rattle.hq_model.specs.Scope.{scope_schema}
+use Rattle.hq_model.specs.Described.{scope_schema}
 use Rattle.hq_request_build.specs.Joined.{joined, sorts_tables}
 use Rattle.hq_request_build.proofs.conditions.touch_sorts.Given as goal
 

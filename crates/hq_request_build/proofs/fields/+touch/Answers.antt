@@ -5,7 +5,7 @@ use Rattle.hq_request_tree.specs.Fields.{FieldTrees, FieldTree, PartTrees, field
 use Rattle.hq_request_tree.specs.declared.field.KeyedAggPart.{KeyedAggPart}
 use Rattle.hq_request_tree.specs.declared.field.KeyedAskField.{KeyedAskField}
 use Rattle.hq_model.specs.Schema.{Schema}
-use Rattle.hq_model.specs.Scope.{scope_schema}
+use Rattle.hq_model.specs.Described.{scope_schema}
 use Rattle.hq_model.specs.Selected.{ListArguments}
 use Rattle.hq_request_build.specs.Joined.{joined}
 use Rattle.hq_request_build.proofs.Joined.{joined_append, one_more}

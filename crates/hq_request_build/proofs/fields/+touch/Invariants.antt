@@ -1,7 +1,7 @@
 use Rattle.std.proofs.Common.{◌≡◌, map, drop}
 use Rattle.hq_request_tree.specs.Touched.{tables_of, part_tables}
 use Rattle.hq_request_tree.specs.Fields.{fields_of, parts_of, keyed_field_view, keyed_part_view}
-use Rattle.hq_model.specs.Scope.{scope_schema}
+use Rattle.hq_model.specs.Described.{scope_schema}
 use Rattle.hq_request_build.specs.Joined.{joined}
 use Rattle.hq_request_build.proofs.fields.+touch.Given as goal
 

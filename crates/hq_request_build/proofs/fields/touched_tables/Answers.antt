@@ -2,7 +2,7 @@ use Rattle.std.proofs.Common.{◌∙◌, ap, map}
 use Rattle.hq_request_tree.specs.Touched.{tables_of, touched}
 use Rattle.hq_request_tree.specs.Fields.{FieldTrees, fields_of, keyed_field_view}
 use Rattle.hq_model.specs.Schema.{Schema}
-use Rattle.hq_model.specs.Scope.{scope_schema}
+use Rattle.hq_model.specs.Described.{scope_schema}
 use Rattle.hq_request_build.specs.Joined.{joined}
 use Rattle.hq_request_build.proofs.Joined.{joined_all}
 use Rattle.hq_request_build.proofs.fields.touched_tables.Goals as goal

@@ -63,7 +63,8 @@ coerce_members-returns-in-None t c =
     sym (read_none (λ (ms : List Member). coerced_members s (members_of (map member_view ms)) c.args.t)
     (λ (n : Member). read_member s c.args.t (member_view n)) (λ n ns. reads_by_image (λ (x : JsonTree). ((member_view n).0, x)) _ _)
     c.deref-member-items.result.now c.loop-member.member-index m (map member_view c.loop-member.object.items) _ c.loop-member.invariant c.loop-member-test.true c.member-item.is
-    (ap (read_member s c.args.t) (view-Member m) ∙ ap (member_by s seen) (sym c.in-Some.ensures) ∙ ap (option_map (λ (x : JsonTree). (m.name, x))) (sym c.in_ok-value.ensures ∙ ap (option_map json_view) c.in-None.is)))
+    (ap (read_member s c.args.t) (view-Member m) ∙ ap (member_by s seen) (sym c.in-Some.ensures)
+    ∙ ap (option_map (λ (x : JsonTree). (m.name, x))) (sym c.in_ok-value.ensures ∙ ap (option_map json_view) c.in-None.is)))
 
 pub coerce-returns-in-Arr : goal.coerce-returns-in-Arr
 coerce-returns-in-Arr t c =

@@ -6,7 +6,7 @@ use Rattle.hq_sql_tree.specs.declared.select.From.{the_lemmas as from_lemmas}
 use Rattle.hq_sql_tree.specs.Meaning.{nothing, with_alias}
 use Rattle.hq_sql_tree.specs.Tree as tree
 use Rattle.hq_sql_tree.specs.View.{from_view, pred_view}
-use Rattle.hq_sql_access.specs.declared.pinned.Known.{Known}
+use Rattle.hq_sql_access.specs.declared.pinned.KnownRows.{KnownRows}
 use Rattle.hq_sql_access.specs.Sources.{alias_in}
 use Rattle.hq_sql_access.specs.View.{source_view, world_of}
 use Rattle.hq_sql_eval.proofs.Learned.{learned_is, of_table}
@@ -22,7 +22,7 @@ returns c =
     let rows = source_view c.source_of-source.result in
     let closed = c.split.new.closed.items in
     let rest = c.split.new.rest.items in
-    let k : Known = record { from = c.args.from; filter = c.args.filter; truths = c.in_ok-truths.truths; rest = c.split.new.rest } in
+    let k : KnownRows = record { from = c.args.from; filter = c.args.filter; truths = c.in_ok-truths.truths; rest = c.split.new.rest } in
     let begun : IsSplit (a ∷ []) (kept_one p) m [] [] closed rest =
     subst (λ l. IsSplit (a ∷ []) (kept_one p) m l [] closed rest) c.new-closed.ensures.items
     (subst (λ l. IsSplit (a ∷ []) (kept_one p) m c.new-closed.result.items l closed rest) c.new-rest.ensures.items c.in_ok-split.ensures) in

@@ -1,8 +1,8 @@
 use Rattle.std.proofs.Common.{◌∙◌, ap, sym}
 use Rattle.hq_model.specs.Schema.{no_rel, table}
-use Rattle.hq_model.specs.Scope.{scope_schema}
+use Rattle.hq_model.specs.Described.{scope_schema}
 use Rattle.hq_model.proofs.Places.{absent}
-use Rattle.hq_model.proofs.scope.Scope.remote.Goals as goal
+use Rattle.hq_model.proofs.scope.Described.remote.Goals as goal
 
 pub returns-in-None : goal.returns-in-None
 returns-in-None c =

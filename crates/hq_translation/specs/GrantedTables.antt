@@ -5,12 +5,12 @@ use Rattle.hq_model.specs.Grants.{Grants, grant}
 use Rattle.hq_model.specs.Permission.{Mask}
 
 -- for each table the filter that its rows are to meet, the most rows of a list, and the masks
-pub record Rights : Type 0 where
+pub record GrantedTables : Type 0 where
   pub filter : (table : ℕ) → BexpTree
   pub limit : (table : ℕ) → Option ℕ
   pub masks : (table : ℕ) → List Mask
 
-abbrev pub rights_of : Grants → Rights
+abbrev pub rights_of : Grants → GrantedTables
 rights_of g = record {
   filter = λ t. (grant g t).filter;
   limit = λ t. (grant g t).limit;

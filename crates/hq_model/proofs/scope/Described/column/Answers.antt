@@ -2,7 +2,7 @@ use Rattle.std.proofs.Common.{◌∙◌, ap, sym}
 use Rattle.std.specs.Prelude.{slice_get}
 use Rattle.hq_model.specs.Meta.{meta_view}
 use Rattle.hq_model.proofs.Places.{table_present, table_absent}
-use Rattle.hq_model.proofs.scope.Scope.column.Goals as goal
+use Rattle.hq_model.proofs.scope.Described.column.Goals as goal
 
 pub returns-in-Some : goal.returns-in-Some
 returns-in-Some c =

@@ -32,19 +32,19 @@ abbrev pub is_complete : SchemaTree → FieldTree → (empty : Bool) → Bool
 is_complete s f empty = empty || is_some (object_at s (base f.ty))
 
 -- the definition of a field in a schema, and its coerced arguments
-abbrev pub Known : Type 0
-Known = FieldTree × FieldArguments
+abbrev pub KnownField : Type 0
+KnownField = FieldTree × FieldArguments
 
-abbrev pub known_of : Context → (t : ℕ) → FieldHead → (empty : Bool) → Option FieldTree → Due Known
+abbrev pub known_of : Context → (t : ℕ) → FieldHead → (empty : Bool) → Option FieldTree → Due KnownField
 known_of c t h empty None = refused rule.FieldSelections h
 known_of c t h empty (Some f) = cond (is_complete c.schema f empty) (mapped (λ a. (f, a)) (arguments_due c t f h)) (refused rule.LeafFieldSelections h)
 
 -- of a field in the object type of a place, at a row of table t
-abbrev pub known_due : Context → (place t : ℕ) → FieldHead → (empty : Bool) → Due Known
+abbrev pub known_due : Context → (place t : ℕ) → FieldHead → (empty : Bool) → Due KnownField
 known_due c place t h empty = known_of c t h empty (known_field c.schema (Some place) h.name)
 
 -- the place of the type that a field leads to
-abbrev pub leads_to : Known → ℕ
+abbrev pub leads_to : KnownField → ℕ
 leads_to k = base k.0.ty
 
 -- the name of the type of a place
