@@ -6,7 +6,7 @@ use Rattle.hq_copy_definition.specs.Copied.{Copied}
 use Rattle.hq_copy_text.specs.Clean.{IsClean}
 use Rattle.hq_copy_text.specs.Parts.{part_due}
 use Rattle.hq_laws_copy_text.specs.Laws.{PartReadsBack, ReadsBack}
-use Rattle.hq_command.specs.Ending.{Answer}
+use Rattle.hq_command.specs.Ending.{Outcome}
 use Rattle.hq_command.specs.Refusals.{contents_due, of_loading}
 use Rattle.hq_io.specs.declared.files.File.{File}
 use Rattle.hq_load.specs.Loading.{Contents, contents, loading_due, refused_as}
@@ -34,7 +34,7 @@ text_back law tables m session d name k whole fit valid given clean c text made 
     subst (λ (x : Copied). part_due x name ≡ Ok text → ReadsBack x name text) same (λ g. law tables m session d k name text whole fit valid given clean g) due
 
 -- what is written of a folder is read back, as what the folder holds
-pub folder_back : (folder : Option (List File)) (dir name : List ℕ) (headers : List Header) (held : Contents) (session : Session) (answer : Answer)
+pub folder_back : (folder : Option (List File)) (dir name : List ℕ) (headers : List Header) (held : Contents) (session : Session) (answer : Outcome)
     → session ≡ session_of headers → IfSome folder (λ fs. loading_due fs dir ≡ Ok held) → TextReadsBack session name held
     → IfSome folder (λ fs. OnOk answer (CopyReadsBack dir name headers fs))
 folder_back None dir name headers held session answer who holds back = tt

@@ -2,7 +2,7 @@
 use Rattle.std.proofs.Common.{◌≡◌, ℕ, List, Option, Some, None, IfErr, IfSome, Result, Ok, Err, inl, inr, ⊎_elim, refl, sym, ap, ◌∙◌, subst, arith}
 use Rattle.std.specs.Prelude.{◌⊎◌}
 use Rattle.hq_base.specs.Due.{Gives, ◌>>=◌}
-use Rattle.hq_command.specs.Ending.{Answer, Ends, Output}
+use Rattle.hq_command.specs.Ending.{Outcome, Ends, Output}
 use Rattle.hq_command.specs.Refusals.{of_loading}
 use Rattle.hq_command.specs.declared.done.Done.TheVariants.{Answered}
 use Rattle.hq_command.specs.declared.refusal.Refusal.{Refusal}
@@ -90,7 +90,7 @@ output_over dir name headers fs held session who holds =
 
 -- a text that is due
 pub given_over : (folder : Option (List File)) (dir name : List ℕ) (headers : List Header) (held : Contents) (session : Session) (text : List ℕ)
-    (old new : Option (List ℕ)) (answer : Answer)
+    (old new : Option (List ℕ)) (answer : Outcome)
     → session ≡ session_of headers → IfSome folder (λ fs. loading_due fs dir ≡ Ok held) → text_due session name held ≡ Ok text
     → Ends old new (Ok (written text)) answer → IfSome folder (λ fs. Ends old new (copy_output dir name headers fs) answer)
 given_over None dir name headers held session text old new answer who holds due ends = tt

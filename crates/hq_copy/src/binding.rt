@@ -8,19 +8,19 @@ ghost use Rattle.hq_copy_tables.specs.Views.{source_view};
 ghost use Rattle.hq_copy.specs.Granted.{granted_due};
 ghost use Rattle.hq_model.specs.Binding.{bound_masks, bound_permission};
 ghost use Rattle.hq_model.specs.PermView.{mask_view, permission_view};
-ghost use Rattle.hq_model.specs.Scope.{scope_schema};
+ghost use Rattle.hq_model.specs.Described.{scope_schema};
 ghost use Rattle.hq_model.specs.declared.bind.BindRefusal.TheVariants as binding;
 
 use hq_base::List;
 use hq_copy_definition::CopyRefusal;
 use hq_copy_tables::Source;
-use hq_model::{BindRefusal, Mask, MaskList, PermView, Scope, Session, TableId, TryCopy};
+use hq_model::{BindRefusal, Mask, MaskList, PermView, Described, Session, TableId, TryCopy};
 use hq_model_binding::bind;
 use std::alloc::Global;
 
 fn bound_mask(
     alloc: Global,
-    scope: &Scope<'_>,
+    scope: &Described<'_>,
     session: &Session,
     t: TableId,
     mask: &Mask,
@@ -36,7 +36,7 @@ fn bound_mask(
 
 fn bound_masks(
     alloc: Global,
-    scope: &Scope<'_>,
+    scope: &Described<'_>,
     session: &Session,
     t: TableId,
     masks: &[Mask],
@@ -54,7 +54,7 @@ fn bound_masks(
 // A permission on a table, its filter bound and then its masks.
 fn bound_permission(
     alloc: Global,
-    scope: &Scope<'_>,
+    scope: &Described<'_>,
     session: &Session,
     t: TableId,
     permission: &PermView,
@@ -93,7 +93,7 @@ fn not_bound(refusal: BindRefusal) -> CopyRefusal
 /// What a session is granted of each of these tables, or the first operand in read order that has no value.
 pub fn granted(
     alloc: Global,
-    scope: &Scope<'_>,
+    scope: &Described<'_>,
     session: &Session,
     sources: &[Source<'_>],
 ) -> Result<List<PermView>, CopyRefusal>

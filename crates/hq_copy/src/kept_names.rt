@@ -6,12 +6,12 @@ ghost use Rattle.hq_copy_tables.specs.Originals.{meta_in, role_in, schema_in};
 ghost use Rattle.hq_copy_tables.specs.Views.{source_view};
 ghost use Rattle.hq_copy.specs.Refused.{Refuses};
 ghost use Rattle.hq_model.specs.Schema.{column, rel};
-ghost use Rattle.hq_model.specs.Scope.{scope_schema};
+ghost use Rattle.hq_model.specs.Described.{scope_schema};
 
 use hq_base::Txt;
 use hq_copy_definition::CopyRefusal;
 use hq_copy_tables::{Original, Source, kept_relationships};
-use hq_model::{ColId, RelId, Scope, TableId};
+use hq_model::{ColId, RelId, Described, TableId};
 use std::alloc::Global;
 
 // Whether a name begins as those of added columns do.
@@ -44,7 +44,7 @@ fn check_name(alloc: Global, name: &Txt) -> Result<(), CopyRefusal>
 // Refuses the name of a column in the database.
 fn check_column_name(
     alloc: Global,
-    scope: &Scope<'_>,
+    scope: &Described<'_>,
     t: TableId,
     c: ColId,
 ) -> Result<(), CopyRefusal>
@@ -69,7 +69,7 @@ fn check_graphql_name(alloc: Global, names: &[Txt], c: ColId) -> Result<(), Copy
 // Refuses a name of a copied column.
 fn check_column(
     alloc: Global,
-    scope: &Scope<'_>,
+    scope: &Described<'_>,
     source: &Source<'_>,
     c: ColId,
 ) -> Result<(), CopyRefusal>
@@ -80,7 +80,7 @@ fn check_column(
 }
 
 // Refuses the names of copied columns, the first first.
-fn check_columns(alloc: Global, scope: &Scope<'_>, source: &Source<'_>) -> Result<(), CopyRefusal>
+fn check_columns(alloc: Global, scope: &Described<'_>, source: &Source<'_>) -> Result<(), CopyRefusal>
     ensures { Refuses (first_of (column_refusal (scope_schema scope.now) (source_view source.now)) (source_view source.now).permission.columns) result }
 {
     for c in source.permission.cols.as_slice() {
@@ -90,7 +90,7 @@ fn check_columns(alloc: Global, scope: &Scope<'_>, source: &Source<'_>) -> Resul
 }
 
 // Refuses the name of a relationship.
-fn check_rel(alloc: Global, scope: &Scope<'_>, t: TableId, r: RelId) -> Result<(), CopyRefusal>
+fn check_rel(alloc: Global, scope: &Described<'_>, t: TableId, r: RelId) -> Result<(), CopyRefusal>
     ensures { Refuses (kept_name (rel (scope_schema scope.now) t r).name) result }
 {
     match scope.rel(t, r) {
@@ -102,7 +102,7 @@ fn check_rel(alloc: Global, scope: &Scope<'_>, t: TableId, r: RelId) -> Result<(
 // Refuses the names of relationships, the first first.
 fn check_rels(
     alloc: Global,
-    scope: &Scope<'_>,
+    scope: &Described<'_>,
     t: TableId,
     rels: &[RelId],
 ) -> Result<(), CopyRefusal>

@@ -30,7 +30,7 @@ use hq_copy_filter::{all_rows, pin_all};
 use hq_copy_tables::{Original, copied_meta, copied_tables, links, sources};
 use hq_laws_copy::{copied_metadata_fits, copied_rows_fit};
 use hq_load_tables::{RowList, Rows, RowsList, StoreRefusal, Tables};
-use hq_model::{Catalog, Meta, PermView, Role, Scope, Session, Table, TableList};
+use hq_model::{Catalog, Meta, PermView, Role, Described, Session, Table, TableList};
 use std::alloc::Global;
 
 /// The catalog and the metadata of a copy, and what the session is granted of its tables.
@@ -236,7 +236,7 @@ fn copied_for<T: Tables>(
 // The copy for a session's role.
 fn copied_by<T: Tables>(
     alloc: Global,
-    scope: Scope<'_>,
+    scope: Described<'_>,
     session: &Session,
     tables: &mut T,
 ) -> Result<Redacted, CopyRefusal>
@@ -280,7 +280,7 @@ pub fn redact<T: Tables>(
     ensures later { T.faults tables.old ≤ T.faults tables.new }
 {
     tables.release();
-    let copy = copied_by(alloc, Scope { catalog, meta }, session, tables);
+    let copy = copied_by(alloc, Described { catalog, meta }, session, tables);
     tables.release();
     copy
 }

@@ -8,7 +8,7 @@ ghost use Rattle.hq_model.specs.Bexp.{bexp_view};
 ghost use Rattle.hq_model.specs.PermView.{mask_view, permission_view};
 ghost use Rattle.hq_model.specs.Permitted.{columns_cmp, mask_of, permitted_under, shown_under};
 ghost use Rattle.hq_model.specs.Schema.{table};
-ghost use Rattle.hq_model.specs.Scope.{scope_schema};
+ghost use Rattle.hq_model.specs.Described.{scope_schema};
 ghost use Rattle.hq_model.specs.Seen.{all_of, row_cell, table_rows};
 ghost use Rattle.hq_model.specs.Truth.{keeps};
 
@@ -17,7 +17,7 @@ use crate::order::columns_cmp;
 use crate::truths::truth;
 use hq_base::{Memory, Val};
 use hq_load_tables::Rows;
-use hq_model::{Bexp, ColId, Mask, PermView, Scope, TableId};
+use hq_model::{Bexp, ColId, Mask, PermView, Described, TableId};
 use std::alloc::Global;
 
 /// Rows, lent.
@@ -53,7 +53,7 @@ fn sort_rows(columns: &[ColId], rows: &mut RowRefs<'_>) -> Result<(), Memory>
 }
 
 // The columns of a table's key, none where there is no such table.
-fn key_of<'s>(scope: &Scope<'s>, t: TableId) -> &'s [ColId]
+fn key_of<'s>(scope: &Described<'s>, t: TableId) -> &'s [ColId]
     ensures { result.now ≡ (table (scope_schema scope.now) t).key }
 {
     match scope.catalog.table(t) {
@@ -66,7 +66,7 @@ fn key_of<'s>(scope: &Scope<'s>, t: TableId) -> &'s [ColId]
 fn kept<'d>(
     alloc: Global,
     filter: &Bexp,
-    scope: &Scope<'_>,
+    scope: &Described<'_>,
     tables: &[&Rows],
     t: TableId,
     rows: &[&'d [Val]],
@@ -86,7 +86,7 @@ fn kept<'d>(
 pub fn permitted_rows<'d>(
     alloc: Global,
     permission: &PermView,
-    scope: &Scope<'_>,
+    scope: &Described<'_>,
     tables: &[&'d Rows],
     t: TableId,
 ) -> Result<Vec<&'d [Val]>, Memory>
@@ -101,7 +101,7 @@ pub fn permitted_rows<'d>(
 fn shows(
     alloc: Global,
     masks: &[Mask],
-    scope: &Scope<'_>,
+    scope: &Described<'_>,
     tables: &[&Rows],
     t: TableId,
     row: &[Val],
@@ -131,7 +131,7 @@ fn value_at(alloc: Global, row: &[Val], column: ColId) -> Result<Val, Memory>
 pub fn shown_value(
     alloc: Global,
     permission: &PermView,
-    scope: &Scope<'_>,
+    scope: &Described<'_>,
     tables: &[&Rows],
     t: TableId,
     row: &[Val],

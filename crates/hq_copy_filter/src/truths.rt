@@ -7,7 +7,7 @@ ghost use Rattle.hq_sql_cells.specs.View.{cell_view};
 ghost use Rattle.hq_model.specs.Bexp.{bexp_view, bexps_of, operands_of};
 ghost use Rattle.hq_model.specs.Logic.{compared, negated_if, truth_of};
 ghost use Rattle.hq_model.specs.Schema.{rel};
-ghost use Rattle.hq_model.specs.Scope.{scope_schema};
+ghost use Rattle.hq_model.specs.Described.{scope_schema};
 ghost use Rattle.hq_model.specs.Seen.{all_of};
 ghost use Rattle.hq_model.specs.Tests.{test_truth};
 ghost use Rattle.hq_model.specs.Truth.{operand_cell, truth, truth_of_all, truth_of_any};
@@ -16,7 +16,7 @@ use crate::cells::{are_linked, cell_at};
 use crate::loaded::rows_at;
 use hq_base::{Memory, Val};
 use hq_load_tables::Rows;
-use hq_model::{Bexp, BexpList, Op, Operand, Operands, Pair, RelId, Scope, TableId, Test, Truth};
+use hq_model::{Bexp, BexpList, Op, Operand, Operands, Pair, RelId, Described, TableId, Test, Truth};
 use hq_sql_cells::{Cell, test_truth};
 use std::alloc::Global;
 use std::slice;
@@ -86,7 +86,7 @@ fn compared(alloc: Global, op: Op, left: &Cell<'_>, right: &Cell<'_>) -> Result<
 }
 
 // The pairs of a relationship, none where there is no such relationship.
-fn pairs_of<'s>(scope: &Scope<'s>, t: TableId, r: RelId) -> &'s [Pair]
+fn pairs_of<'s>(scope: &Described<'s>, t: TableId, r: RelId) -> &'s [Pair]
     ensures { result.now ≡ (rel (scope_schema scope.now) t r).pairs }
 {
     match scope.rel(t, r) {
@@ -100,7 +100,7 @@ fn pairs_of<'s>(scope: &Scope<'s>, t: TableId, r: RelId) -> &'s [Pair]
 pub fn truth(
     alloc: Global,
     bexp: &Bexp,
-    scope: &Scope<'_>,
+    scope: &Described<'_>,
     tables: &[&Rows],
     t: TableId,
     row: &[Val],
@@ -131,7 +131,7 @@ pub fn truth(
 fn related(
     alloc: Global,
     bexp: &Bexp,
-    scope: &Scope<'_>,
+    scope: &Described<'_>,
     tables: &[&Rows],
     t: TableId,
     r: RelId,
@@ -153,7 +153,7 @@ fn related(
 fn all_true(
     alloc: Global,
     bexps: &BexpList,
-    scope: &Scope<'_>,
+    scope: &Described<'_>,
     tables: &[&Rows],
     t: TableId,
     row: &[Val],
@@ -175,7 +175,7 @@ fn all_true(
 fn any_true(
     alloc: Global,
     bexps: &BexpList,
-    scope: &Scope<'_>,
+    scope: &Described<'_>,
     tables: &[&Rows],
     t: TableId,
     row: &[Val],
@@ -197,7 +197,7 @@ fn any_true(
 fn is_met(
     alloc: Global,
     bexp: &Bexp,
-    scope: &Scope<'_>,
+    scope: &Described<'_>,
     tables: &[&Rows],
     u: TableId,
     pairs: &[Pair],
@@ -217,7 +217,7 @@ fn is_met(
 fn some_met(
     alloc: Global,
     bexp: &Bexp,
-    scope: &Scope<'_>,
+    scope: &Described<'_>,
     tables: &[&Rows],
     u: TableId,
     pairs: &[Pair],
@@ -239,7 +239,7 @@ fn some_met(
 fn some_row(
     alloc: Global,
     bexp: &Bexp,
-    scope: &Scope<'_>,
+    scope: &Described<'_>,
     tables: &[&Rows],
     u: TableId,
     pairs: &[Pair],

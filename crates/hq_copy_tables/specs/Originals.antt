@@ -5,7 +5,7 @@ use Rattle.hq_copy_tables.specs.Views.{link_view, source_view}
 use Rattle.hq_copy_tables.specs.declared.original.Original.{Original}
 use Rattle.hq_model.specs.Meta.{MetaTree, meta_view}
 use Rattle.hq_model.specs.Schema.{Schema}
-use Rattle.hq_model.specs.Scope.{scope_schema}
+use Rattle.hq_model.specs.Described.{scope_schema}
 use Rattle.hq_model.specs.declared.role.Role.{Role}
 
 abbrev pub role_in : Original → Role

@@ -5,14 +5,14 @@ ghost use Rattle.hq_copy_definition.specs.Tables.{copied_key, copied_table, copi
 ghost use Rattle.hq_copy_tables.specs.Originals.{IsOriginal, meta_in, role_in, schema_in};
 ghost use Rattle.hq_copy_tables.specs.Views.{source_view};
 ghost use Rattle.hq_model.specs.Schema.{table};
-ghost use Rattle.hq_model.specs.Scope.{scope_schema};
+ghost use Rattle.hq_model.specs.Described.{scope_schema};
 
 use crate::columns::copied_columns;
 use crate::extras::{ends_of, key_of};
 use crate::places::place_in;
 use crate::{Original, Source, keeps_key};
 use hq_base::{List, Memory, Txt};
-use hq_model::{ColId, ColList, Scope, Table, TableId, TableList};
+use hq_model::{ColId, ColList, Described, Table, TableId, TableList};
 use std::alloc::Global;
 
 // The places of these columns among the permitted ones.
@@ -48,7 +48,7 @@ fn copied_key(
 }
 
 // The schema's name and the name of a table, empty where it is not in the catalog.
-fn names_of(alloc: Global, scope: &Scope<'_>, t: TableId) -> Result<(Txt, Txt), Memory>
+fn names_of(alloc: Global, scope: &Described<'_>, t: TableId) -> Result<(Txt, Txt), Memory>
     ensures { IfOk result (λ names. (names.0 ≡ (table (scope_schema scope.now) t).schema) × (names.1 ≡ (table (scope_schema scope.now) t).name)) }
 {
     match scope.catalog.table(t) {

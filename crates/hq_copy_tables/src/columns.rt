@@ -6,16 +6,16 @@ ghost use Rattle.hq_copy_tables.specs.Originals.{IsOriginal, meta_in, role_in, s
 ghost use Rattle.hq_copy_tables.specs.Views.{extra_view, source_view};
 ghost use Rattle.hq_model.specs.PermView.{permission_view};
 ghost use Rattle.hq_model.specs.Schema.{column};
-ghost use Rattle.hq_model.specs.Scope.{scope_schema};
+ghost use Rattle.hq_model.specs.Described.{scope_schema};
 
 use crate::extras::{Extra, extra_column, extras_of};
 use crate::{Original, Source, has_mask};
 use hq_base::{List, Memory, Txt, Ty};
-use hq_model::{ColId, Column, ColumnList, PermView, Scope, TableId, TryCopy};
+use hq_model::{ColId, Column, ColumnList, PermView, Described, TableId, TryCopy};
 use std::alloc::Global;
 
 // A column of a table: a nullable text of no name where it is not there.
-fn column_at(alloc: Global, scope: &Scope<'_>, t: TableId, c: ColId) -> Result<Column, Memory>
+fn column_at(alloc: Global, scope: &Described<'_>, t: TableId, c: ColId) -> Result<Column, Memory>
     ensures { IfOk result (λ found. found ≡ column (scope_schema scope.now) t c) }
 {
     match scope.column(t, c) {
@@ -32,7 +32,7 @@ fn column_at(alloc: Global, scope: &Scope<'_>, t: TableId, c: ColId) -> Result<C
 // A permitted column: it may hold NULL also where it shows in some rows only.
 fn copied_column(
     alloc: Global,
-    scope: &Scope<'_>,
+    scope: &Described<'_>,
     permission: &PermView,
     t: TableId,
     c: ColId,
@@ -56,7 +56,7 @@ fn copied_column(
 // The permitted columns.
 fn permitted_columns(
     alloc: Global,
-    scope: &Scope<'_>,
+    scope: &Described<'_>,
     source: &Source<'_>,
 ) -> Result<ColumnList, Memory>
     ensures { IfOk result

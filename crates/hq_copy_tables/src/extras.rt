@@ -7,12 +7,12 @@ ghost use Rattle.hq_copy_definition.specs.Sources.{link_remote as remote_of};
 ghost use Rattle.hq_copy_tables.specs.Originals.{IsOriginal, meta_in, role_in, schema_in};
 ghost use Rattle.hq_copy_tables.specs.Views.{extra_view, link_view, source_view};
 ghost use Rattle.hq_model.specs.Schema.{table};
-ghost use Rattle.hq_model.specs.Scope.{scope_schema};
+ghost use Rattle.hq_model.specs.Described.{scope_schema};
 
 use crate::linked::link_remote;
 use crate::{Link, Original, Source, keeps_key};
 use hq_base::{Memory, Txt, Ty};
-use hq_model::{ColId, Column, Scope, TableId};
+use hq_model::{ColId, Column, Described, TableId};
 use std::alloc::Global;
 
 /// An added column: the own end of the link of this number, its remote end, or the position of the row.
@@ -39,7 +39,7 @@ fn push_own(t: TableId, number: usize, link: &Link, ends: &mut Vec<Extra>) -> Re
 
 // Its remote end, behind others, where it leads to the table.
 fn push_remote(
-    scope: &Scope<'_>,
+    scope: &Described<'_>,
     t: TableId,
     number: usize,
     link: &Link,
@@ -62,7 +62,7 @@ fn push_remote(
 
 // The ends of a link in a table, the own end first, behind others.
 fn push_ends(
-    scope: &Scope<'_>,
+    scope: &Described<'_>,
     t: TableId,
     number: usize,
     link: &Link,
@@ -92,7 +92,7 @@ pub(crate) fn ends_of(
 }
 
 /// The key of a table, none where it is not in the catalog.
-pub fn key_of<'a>(scope: &Scope<'a>, t: TableId) -> &'a [ColId]
+pub fn key_of<'a>(scope: &Described<'a>, t: TableId) -> &'a [ColId]
     ensures { result.now ≡ (table (scope_schema scope.now) t).key }
 {
     match scope.catalog.table(t) {

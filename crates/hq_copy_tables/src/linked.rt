@@ -4,12 +4,12 @@ ghost use Rattle.hq_copy_definition.specs.Sources.{kept_relationships, link_remo
 ghost use Rattle.hq_copy_tables.specs.Linked.{links_at, links_over};
 ghost use Rattle.hq_copy_tables.specs.Views.{link_view, source_view};
 ghost use Rattle.hq_model.specs.Meta.{meta_view};
-ghost use Rattle.hq_model.specs.Scope.{scope_schema};
+ghost use Rattle.hq_model.specs.Described.{scope_schema};
 
 use crate::Source;
 use crate::relationships::kept_relationships;
 use hq_base::Memory;
-use hq_model::{RelId, Role, Scope, TableId};
+use hq_model::{RelId, Role, Described, TableId};
 use std::alloc::Global;
 
 /// A relationship of a table of the copy, by the places of both in the original.
@@ -22,7 +22,7 @@ pub struct Link {
 // The links of a table, behind others.
 fn push_links(
     alloc: Global,
-    scope: &Scope<'_>,
+    scope: &Described<'_>,
     role: &Role,
     t: TableId,
     links: &mut Vec<Link>,
@@ -42,7 +42,7 @@ fn push_links(
 /// All links between tables of the copy, by table and relationship.
 pub fn links(
     alloc: Global,
-    scope: &Scope<'_>,
+    scope: &Described<'_>,
     role: &Role,
     sources: &[Source<'_>],
 ) -> Result<Vec<Link>, Memory>
@@ -56,7 +56,7 @@ pub fn links(
 }
 
 /// The remote table of a link.
-pub fn link_remote(scope: &Scope<'_>, link: Link) -> TableId
+pub fn link_remote(scope: &Described<'_>, link: Link) -> TableId
     ensures { result ≡ link_remote (scope_schema scope.now) (link_view link) }
 {
     scope.remote(link.table, link.relationship)

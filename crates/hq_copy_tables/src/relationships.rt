@@ -4,10 +4,10 @@ ghost use Rattle.hq_copy_definition.specs.Sources.{kept_relationships};
 ghost use Rattle.hq_model.specs.Meta.{meta_view};
 ghost use Rattle.hq_model.specs.Permission.{permission};
 ghost use Rattle.hq_model.specs.Schema.{rels_of, table};
-ghost use Rattle.hq_model.specs.Scope.{scope_schema};
+ghost use Rattle.hq_model.specs.Described.{scope_schema};
 
 use hq_base::Memory;
-use hq_model::{Meta, Rel, RelId, Role, Scope, TableId};
+use hq_model::{Meta, Rel, RelId, Role, Described, TableId};
 use std::alloc::Global;
 
 // The relationships of a table's entry, none where it is not tracked.
@@ -21,7 +21,7 @@ fn tracked_rels(meta: &Meta, t: TableId) -> &[Rel]
 }
 
 // The relationships of a table, none where it is not in the catalog.
-fn relationships<'a>(scope: &Scope<'a>, t: TableId) -> &'a [Rel]
+fn relationships<'a>(scope: &Described<'a>, t: TableId) -> &'a [Rel]
     ensures { result.now ≡ (table (scope_schema scope.now) t).rels }
 {
     match scope.catalog.table(t) {
@@ -31,7 +31,7 @@ fn relationships<'a>(scope: &Scope<'a>, t: TableId) -> &'a [Rel]
 }
 
 // Whether the role may see something of a table.
-fn is_seen(alloc: Global, scope: &Scope<'_>, role: &Role, t: TableId) -> Result<bool, Memory>
+fn is_seen(alloc: Global, scope: &Described<'_>, role: &Role, t: TableId) -> Result<bool, Memory>
     ensures { IfOk result (λ b. b ≡ is_some (permission role.now (meta_view scope.now.meta.now) t)) }
 {
     let permission = scope.meta.perm(alloc, role, t)?;
@@ -51,7 +51,7 @@ fn push_kept(at: usize, is_kept: bool, kept: &mut Vec<RelId>) -> Result<(), Memo
 /// The relationships of a table that are kept: those to tables that the role may see something of.
 pub fn kept_relationships(
     alloc: Global,
-    scope: &Scope<'_>,
+    scope: &Described<'_>,
     role: &Role,
     t: TableId,
 ) -> Result<Vec<RelId>, Memory>

@@ -1,6 +1,6 @@
 use Rattle.std.proofs.Common.{◌≡◌, Err, refl}
 use Rattle.std.proofs.lemmas.Result.{err_from_is_err_and}
-use Rattle.hq_command.specs.Ending.{Answer, NotDatabase, Silent}
+use Rattle.hq_command.specs.Ending.{Outcome, NotDatabase, Silent}
 use Rattle.hq_command.specs.declared.refusal.Refusal.TheVariants as refusal
 use Rattle.hq_io.specs.Causes.{Rose}
 use Rattle.hq_load.specs.Loading.{loaded_view}
@@ -40,7 +40,7 @@ pub returns-in_err-text-clause-words : goal.returns-in_err-text-clause-words
 returns-in_err-text-clause-words g c =
     let p = err_from_is_err_and c.from_residual-in_err-text.result c.from_residual-in_err-text.ensures.1 in
     rw (p.1, p.2)
-    (of_cause (λ r. ◌≡◌ {A = Answer} (Err r) (Err refusal.BadWords) → ⊥) c.in_err-text.field-0.0 (λ e. cc) (λ cause e. cc)
+    (of_cause (λ r. ◌≡◌ {A = Outcome} (Err r) (Err refusal.BadWords) → ⊥) c.in_err-text.field-0.0 (λ e. cc) (λ cause e. cc)
     (causes c.in_ok-session.session c.args.part.now (loaded_view c.in_ok-loaded.loaded) c.in_err-text.field-0.0 c.in_err-text.ensures.due))
 
 pub returns-in_err-text-clause-read : goal.returns-in_err-text-clause-read
@@ -49,7 +49,7 @@ returns-in_err-text-clause-read g c =
     let old = g.F.Files.faults c.args.files.now in
     let now = g.F.Files.faults c.load.new.files in
     rw (p.1, p.2)
-    (of_cause (λ r. ◌≡◌ {A = Answer} (Err r) (Err refusal.ReadFailed) → Rose old now) c.in_err-text.field-0.0 (λ e. cc) (λ cause e. cc)
+    (of_cause (λ r. ◌≡◌ {A = Outcome} (Err r) (Err refusal.ReadFailed) → Rose old now) c.in_err-text.field-0.0 (λ e. cc) (λ cause e. cc)
     (causes c.in_ok-session.session c.args.part.now (loaded_view c.in_ok-loaded.loaded) c.in_err-text.field-0.0 c.in_err-text.ensures.due))
 
 pub returns-in_err-text-clause-write : goal.returns-in_err-text-clause-write
@@ -57,7 +57,7 @@ returns-in_err-text-clause-write g c =
     let p = err_from_is_err_and c.from_residual-in_err-text.result c.from_residual-in_err-text.ensures.1 in
     let old = g.K.Sink.faults c.args.out.now in
     rw (p.1, p.2)
-    (of_cause (λ r. ◌≡◌ {A = Answer} (Err r) (Err refusal.WriteFailed) → Rose old old) c.in_err-text.field-0.0 (λ e. cc) (λ cause e. cc)
+    (of_cause (λ r. ◌≡◌ {A = Outcome} (Err r) (Err refusal.WriteFailed) → Rose old old) c.in_err-text.field-0.0 (λ e. cc) (λ cause e. cc)
     (causes c.in_ok-session.session c.args.part.now (loaded_view c.in_ok-loaded.loaded) c.in_err-text.field-0.0 c.in_err-text.ensures.due))
 
 pub returns-in_err-text-clause-failed : goal.returns-in_err-text-clause-failed

@@ -3,7 +3,7 @@ use Rattle.std.specs.Prelude.{◌⊎◌}
 use Rattle.std.proofs.lemmas.List.{map-append}
 use Rattle.hq_model.specs.Binding.{bound_masks}
 use Rattle.hq_model.specs.PermView.{mask_view}
-use Rattle.hq_model.specs.Scope.{scope_schema}
+use Rattle.hq_model.specs.Described.{scope_schema}
 use Rattle.hq_model.specs.declared.bind.BindRefusal.{BindRefusal}
 use Rattle.hq_model.specs.declared.bind.BindRefusal.TheVariants.{Memory}
 use Rattle.hq_model.specs.declared.perm.Mask.{Mask}

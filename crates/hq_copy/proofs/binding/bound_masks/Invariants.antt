@@ -2,7 +2,7 @@ use Rattle.std.proofs.Common.{◌≡◌, ◌++◌, drop, map}
 use Rattle.hq_base.specs.Due.{mapped}
 use Rattle.hq_model.specs.Binding.{bound_masks}
 use Rattle.hq_model.specs.PermView.{mask_view}
-use Rattle.hq_model.specs.Scope.{scope_schema}
+use Rattle.hq_model.specs.Described.{scope_schema}
 use Rattle.hq_copy.proofs.binding.bound_masks.Given as goal
 
 -- the masks so far, and then those that are left

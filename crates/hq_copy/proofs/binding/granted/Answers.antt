@@ -11,7 +11,7 @@ use Rattle.hq_model.specs.Binding.{bound_permission}
 use Rattle.hq_model.specs.Permission.{Permission}
 use Rattle.hq_model.specs.PermView.{permission_view}
 use Rattle.hq_model.specs.Schema.{Schema}
-use Rattle.hq_model.specs.Scope.{scope_schema}
+use Rattle.hq_model.specs.Described.{scope_schema}
 use Rattle.hq_model.specs.declared.session.Var.{Var}
 use Rattle.hq_model.proofs.Steps.{ReadsBy, read_more, read_refused}
 use Rattle.hq_copy.proofs.binding.granted.Goals as goal

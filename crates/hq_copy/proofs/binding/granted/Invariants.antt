@@ -3,7 +3,7 @@ use Rattle.hq_base.specs.Due.{mapped}
 use Rattle.hq_copy_tables.specs.Views.{source_view}
 use Rattle.hq_copy.specs.Granted.{granted_due}
 use Rattle.hq_model.specs.PermView.{permission_view}
-use Rattle.hq_model.specs.Scope.{scope_schema}
+use Rattle.hq_model.specs.Described.{scope_schema}
 use Rattle.hq_copy.proofs.binding.granted.Given as goal
 
 -- what is granted of the tables so far, and then of those that are left

@@ -1,7 +1,7 @@
 use Rattle.std.proofs.Common.{◌≡◌, drop}
 use Rattle.hq_copy_definition.specs.Refusals.{column_refusal, first_of}
 use Rattle.hq_copy_tables.specs.Views.{source_view}
-use Rattle.hq_model.specs.Scope.{scope_schema}
+use Rattle.hq_model.specs.Described.{scope_schema}
 use Rattle.hq_copy.proofs.kept_names.check_columns.Given as goal
 
 -- none of the columns so far is refused

@@ -1,7 +1,7 @@
 use Rattle.std.proofs.Common.{◌≡◌, drop}
 use Rattle.hq_copy_definition.specs.Refusals.{first_of, kept_name}
 use Rattle.hq_model.specs.Schema.{rel}
-use Rattle.hq_model.specs.Scope.{scope_schema}
+use Rattle.hq_model.specs.Described.{scope_schema}
 use Rattle.hq_copy.proofs.kept_names.check_rels.Given as goal
 
 -- none of the relationships so far is refused

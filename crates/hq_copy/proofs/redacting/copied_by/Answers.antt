@@ -4,7 +4,7 @@ use Rattle.hq_copy_tables.specs.Views.{link_view, source_view}
 use Rattle.hq_copy_tables.specs.declared.linked.Link.{Link}
 use Rattle.hq_copy_tables.specs.declared.seen.Source.{Source}
 use Rattle.hq_model.specs.Meta.{meta_view}
-use Rattle.hq_model.specs.Scope.{scope_schema}
+use Rattle.hq_model.specs.Described.{scope_schema}
 use Rattle.hq_copy.proofs.redacting.copied_by.Goals as goal
 
 pub copied_for-requires-clause-original : goal.copied_for-requires-clause-original

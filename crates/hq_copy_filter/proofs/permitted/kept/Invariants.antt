@@ -2,7 +2,7 @@ use Rattle.std.proofs.Common.{◌≡◌, ◌++◌, drop}
 use Rattle.hq_copy_filter.specs.Kept.{kept_rows}
 use Rattle.hq_copy_filter.specs.Lent.{database_of, rows_of}
 use Rattle.hq_model.specs.Bexp.{bexp_view}
-use Rattle.hq_model.specs.Scope.{scope_schema}
+use Rattle.hq_model.specs.Described.{scope_schema}
 use Rattle.hq_copy_filter.proofs.permitted.kept.Given as goal
 
 -- those so far, and then those of the rows that are left

@@ -7,7 +7,7 @@ use Rattle.hq_copy_filter.proofs.Ands.{and3_assoc}
 use Rattle.hq_sql_cells.proofs.Truths.{or3_assoc}
 use Rattle.hq_model.specs.Bexp.{bexp_view, bexps_of}
 use Rattle.hq_model.specs.Logic.{and3, or3, truth_of}
-use Rattle.hq_model.specs.Scope.{scope_schema}
+use Rattle.hq_model.specs.Described.{scope_schema}
 use Rattle.hq_model.specs.Seen.{all_of}
 use Rattle.hq_model.specs.declared.bexp.Bexp.{Bexp}
 use Rattle.hq_model.specs.declared.meta.Pair.{Pair}

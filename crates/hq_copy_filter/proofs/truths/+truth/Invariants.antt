@@ -4,7 +4,7 @@ use Rattle.hq_copy_filter.specs.Kept.{is_met}
 use Rattle.hq_copy_filter.specs.Lent.{database_of}
 use Rattle.hq_model.specs.Bexp.{bexp_view, bexps_of}
 use Rattle.hq_model.specs.Logic.{and3, or3}
-use Rattle.hq_model.specs.Scope.{scope_schema}
+use Rattle.hq_model.specs.Described.{scope_schema}
 use Rattle.hq_model.specs.Seen.{all_of}
 use Rattle.hq_model.specs.Truth.{truth_of_all, truth_of_any}
 use Rattle.hq_copy_filter.proofs.truths.+truth.Given as goal

@@ -1,7 +1,7 @@
 use Rattle.std.proofs.Common.{◌≡◌, ◌∙◌, true, sym}
 use Rattle.hq_base.specs.declared.value.Ty.TheVariants.{Text}
 use Rattle.hq_model.specs.Schema.{no_column, table}
-use Rattle.hq_model.specs.Scope.{scope_schema}
+use Rattle.hq_model.specs.Described.{scope_schema}
 use Rattle.hq_model.specs.declared.table.Column.{Column}
 use Rattle.hq_model.proofs.Places.{absent}
 use Rattle.hq_copy_tables.proofs.columns.column_at.Goals as goal

@@ -1,7 +1,7 @@
 use Rattle.std.proofs.Common.{◌≡◌, map, take}
 use Rattle.hq_copy_definition.specs.Tables.{copied_column}
 use Rattle.hq_copy_tables.specs.Views.{source_view}
-use Rattle.hq_model.specs.Scope.{scope_schema}
+use Rattle.hq_model.specs.Described.{scope_schema}
 use Rattle.hq_copy_tables.proofs.columns.permitted_columns.Given as goal
 
 -- the columns so far

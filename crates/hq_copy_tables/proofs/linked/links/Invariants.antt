@@ -2,7 +2,7 @@ use Rattle.std.proofs.Common.{◌≡◌, ◌++◌, map, drop}
 use Rattle.hq_copy_tables.specs.Linked.{links_over}
 use Rattle.hq_copy_tables.specs.Views.{link_view, source_view}
 use Rattle.hq_model.specs.Meta.{meta_view}
-use Rattle.hq_model.specs.Scope.{scope_schema}
+use Rattle.hq_model.specs.Described.{scope_schema}
 use Rattle.hq_copy_tables.proofs.linked.links.Given as goal
 
 -- those so far, and then those of the tables that are left

@@ -4,7 +4,7 @@ use Rattle.hq_copy_definition.specs.Sources.{kept_relationships}
 use Rattle.hq_copy_tables.proofs.Fronts.{places_front}
 use Rattle.hq_model.specs.Meta.{meta_view}
 use Rattle.hq_model.specs.Permission.{permission}
-use Rattle.hq_model.specs.Scope.{scope_schema}
+use Rattle.hq_model.specs.Described.{scope_schema}
 use Rattle.hq_model.specs.View.{places_from}
 use Rattle.hq_model.specs.declared.meta.Rel.{Rel}
 use Rattle.hq_copy_tables.proofs.relationships.kept_relationships.Goals as goal

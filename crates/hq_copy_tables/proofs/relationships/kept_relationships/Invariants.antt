@@ -2,7 +2,7 @@ use Rattle.std.proofs.Common.{◌≡◌, ◌++◌, drop, is_some}
 use Rattle.hq_copy_definition.specs.Sources.{kept_relationships}
 use Rattle.hq_model.specs.Meta.{meta_view}
 use Rattle.hq_model.specs.Permission.{permission}
-use Rattle.hq_model.specs.Scope.{scope_schema}
+use Rattle.hq_model.specs.Described.{scope_schema}
 use Rattle.hq_model.specs.View.{places_from}
 use Rattle.hq_copy_tables.proofs.relationships.kept_relationships.Given as goal
 
