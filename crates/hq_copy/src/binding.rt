@@ -14,7 +14,7 @@ ghost use Rattle.hq_model.specs.declared.bind.BindRefusal.TheVariants as binding
 use hq_base::List;
 use hq_copy_definition::CopyRefusal;
 use hq_copy_tables::Source;
-use hq_model::{BindRefusal, Mask, MaskList, PermView, Described, Session, TableId, TryCopy};
+use hq_model::{BindRefusal, Described, Mask, MaskList, PermView, Session, TableId, TryCopy};
 use hq_model_binding::bind;
 use std::alloc::Global;
 

@@ -11,7 +11,7 @@ ghost use Rattle.hq_model.specs.Described.{scope_schema};
 use hq_base::Txt;
 use hq_copy_definition::CopyRefusal;
 use hq_copy_tables::{Original, Source, kept_relationships};
-use hq_model::{ColId, RelId, Described, TableId};
+use hq_model::{ColId, Described, RelId, TableId};
 use std::alloc::Global;
 
 // Whether a name begins as those of added columns do.
@@ -80,7 +80,11 @@ fn check_column(
 }
 
 // Refuses the names of copied columns, the first first.
-fn check_columns(alloc: Global, scope: &Described<'_>, source: &Source<'_>) -> Result<(), CopyRefusal>
+fn check_columns(
+    alloc: Global,
+    scope: &Described<'_>,
+    source: &Source<'_>,
+) -> Result<(), CopyRefusal>
     ensures { Refuses (first_of (column_refusal (scope_schema scope.now) (source_view source.now)) (source_view source.now).permission.columns) result }
 {
     for c in source.permission.cols.as_slice() {

@@ -30,7 +30,7 @@ use hq_copy_filter::{all_rows, pin_all};
 use hq_copy_tables::{Original, copied_meta, copied_tables, links, sources};
 use hq_laws_copy::{copied_metadata_fits, copied_rows_fit};
 use hq_load_tables::{RowList, Rows, RowsList, StoreRefusal, Tables};
-use hq_model::{Catalog, Meta, PermView, Role, Described, Session, Table, TableList};
+use hq_model::{Catalog, Described, Meta, PermView, Role, Session, Table, TableList};
 use std::alloc::Global;
 
 /// The catalog and the metadata of a copy, and what the session is granted of its tables.

@@ -17,7 +17,7 @@ use crate::order::columns_cmp;
 use crate::truths::truth;
 use hq_base::{Memory, Val};
 use hq_load_tables::Rows;
-use hq_model::{Bexp, ColId, Mask, PermView, Described, TableId};
+use hq_model::{Bexp, ColId, Described, Mask, PermView, TableId};
 use std::alloc::Global;
 
 /// Rows, lent.

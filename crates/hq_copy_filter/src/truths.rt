@@ -16,7 +16,9 @@ use crate::cells::{are_linked, cell_at};
 use crate::loaded::rows_at;
 use hq_base::{Memory, Val};
 use hq_load_tables::Rows;
-use hq_model::{Bexp, BexpList, Op, Operand, Operands, Pair, RelId, Described, TableId, Test, Truth};
+use hq_model::{
+    Bexp, BexpList, Described, Op, Operand, Operands, Pair, RelId, TableId, Test, Truth,
+};
 use hq_sql_cells::{Cell, test_truth};
 use std::alloc::Global;
 use std::slice;

@@ -11,7 +11,7 @@ ghost use Rattle.hq_model.specs.Described.{scope_schema};
 use crate::extras::{Extra, extra_column, extras_of};
 use crate::{Original, Source, has_mask};
 use hq_base::{List, Memory, Txt, Ty};
-use hq_model::{ColId, Column, ColumnList, PermView, Described, TableId, TryCopy};
+use hq_model::{ColId, Column, ColumnList, Described, PermView, TableId, TryCopy};
 use std::alloc::Global;
 
 // A column of a table: a nullable text of no name where it is not there.

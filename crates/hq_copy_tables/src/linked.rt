@@ -9,7 +9,7 @@ ghost use Rattle.hq_model.specs.Described.{scope_schema};
 use crate::Source;
 use crate::relationships::kept_relationships;
 use hq_base::Memory;
-use hq_model::{RelId, Role, Described, TableId};
+use hq_model::{Described, RelId, Role, TableId};
 use std::alloc::Global;
 
 /// A relationship of a table of the copy, by the places of both in the original.

@@ -1,7 +1,7 @@
 //! What is copied, and for whom.
 
 use crate::{Link, Source};
-use hq_model::{Role, Described};
+use hq_model::{Described, Role};
 
 /// A database's catalog and metadata, and of them what a role may see: the tables, and the links between them.
 #[derive(Drop)]

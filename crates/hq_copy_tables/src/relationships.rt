@@ -7,7 +7,7 @@ ghost use Rattle.hq_model.specs.Schema.{rels_of, table};
 ghost use Rattle.hq_model.specs.Described.{scope_schema};
 
 use hq_base::Memory;
-use hq_model::{Meta, Rel, RelId, Role, Described, TableId};
+use hq_model::{Described, Meta, Rel, RelId, Role, TableId};
 use std::alloc::Global;
 
 // The relationships of a table's entry, none where it is not tracked.
