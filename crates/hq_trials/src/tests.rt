@@ -1,3 +1,4 @@
+mod copies;
 mod deepest;
 mod live;
 mod memory;
