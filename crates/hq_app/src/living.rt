@@ -1,5 +1,5 @@
 //! Talks of live queries over a world.
-ghost use Rattle.std.specs.Prelude.{◌≡◌, ◌≤◌, IfErr, IsErrOf, Some};
+ghost use Rattle.std.specs.Prelude.{◌≡◌, IfErr, IsErrOf, Some};
 ghost use Rattle.hq_io.specs.Causes.{Rose};
 ghost use Rattle.hq_command.specs.Ending.{NotDatabase};
 ghost use Rattle.hq_app.specs.Outside.{NoneFell};

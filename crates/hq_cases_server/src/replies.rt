@@ -1,5 +1,5 @@
 //! A responder that gives the answers of a case, one after the other.
-ghost use Rattle.std.specs.Prelude.{◌≡◌, ◌⊎◌, ℕ, ⊤};
+ghost use Rattle.std.specs.Prelude.{◌≡◌, ⊤};
 
 use hq_base::{Bytes, Json, Reply};
 use hq_cases_file::{Case, Stop};
@@ -55,7 +55,7 @@ impl Replies {
 }
 
 impl Responder for Replies {
-    ghost use Rattle.std.specs.Prelude.{◌≡◌, ◌⊎◌, ⊤};
+    ghost use Rattle.std.specs.Prelude.{◌≡◌, ⊤};
 
     ghost ready = { λ _. ⊤ };
 

@@ -1,5 +1,5 @@
 -- The authors that a command generates are few.
-use Rattle.std.proofs.Common.{◌≡◌, ◌≤◌, ℕ, List, Bool, true, false, ◌&&◌, nat_le, refl, subst}
+use Rattle.std.proofs.Common.{◌≡◌, ℕ, List, Bool, true, false, nat_le, refl, subst}
 use Rattle.std.proofs.lemmas.Bool.{leb-true}
 use Rattle.std.specs.Cmp.{first_so, second_so}
 use Rattle.std.specs.Prelude.{[], ◌∷◌, Option, Some, None, IfSome, Result, Ok, Err, IfOk, cond, option_map, option_and_then, ok_or, bytes_eq, codes}
@@ -10,7 +10,7 @@ use Rattle.hq_cli.specs.declared.command.Command.TheVariants.{Query, Sql, Explai
 use Rattle.hq_cli.specs.declared.refusal.WordsRefusal.{WordsRefusal}
 use Rattle.hq_cli.specs.declared.refusal.WordsRefusal.TheVariants.{BadWords, Memory}
 use Rattle.hq_cli.specs.Grammar.{query_faults, query_rows, copy_rows, copy_faults, check_faults, check_rows, serve_faults, serve_rows, live_faults, live_rows, gen_faults, gen_rows}
-use Rattle.hq_cli.specs.Asked.{HasFewAuthors, are_few, are_taken, command_named, command_of, dir_in, filled, gen_in, gen_of, gen_with, is_paged_in, number_in, page_of, query_in, request_in, request_of, serve_in, live_in, copy_in, part_in}
+use Rattle.hq_cli.specs.Asked.{HasFewAuthors, are_few, are_taken, command_named, command_of, dir_in, filled, gen_in, gen_with, is_paged_in, number_in, page_of, query_in, request_in, request_of, serve_in, live_in, copy_in, part_in}
 use Rattle.hq_cli.specs.Pages.{page_named}
 
 -- those of a command, where there is one

@@ -1,4 +1,4 @@
-ghost use Rattle.std.specs.Prelude.{◌≡◌, option_map, ok_or, IfOk};
+ghost use Rattle.std.specs.Prelude.{◌≡◌, ok_or, IfOk};
 ghost use Rattle.clap.specs.Words.{found_of, rows_of};
 ghost use Rattle.hq_base.specs.Due.{Gives};
 ghost use Rattle.hq_cli.specs.Asked.{HasFewAuthors, check_of, command_named, command_of, copy_in, copy_of, gen_in, gen_of, gen_with, page_of, query_in, query_of, request_in, request_of, serve_in, serve_of};

@@ -1,5 +1,5 @@
 //! The words behind `live`.
-ghost use Rattle.std.specs.Prelude.{◌≡◌, ok_or};
+ghost use Rattle.std.specs.Prelude.{ok_or};
 ghost use Rattle.clap.specs.Words.{found_of, rows_of};
 ghost use Rattle.hq_base.specs.Due.{Gives};
 ghost use Rattle.hq_cli.specs.Asked.{live_in, live_of};

@@ -1,5 +1,5 @@
 -- The lines of replies.
-use Rattle.std.proofs.Common.{◌≡◌, ◌∙◌, ◌+◌, ◌<◌, ◌++◌, ℕ, suc, List, [], ◌∷◌, length, map, drop, get_or, Option, Some, None, IfSome, Ok, Err, refl, sym, ap, subst, append_assoc, append-nil, add-one, drop-cons, arith}
+use Rattle.std.proofs.Common.{◌≡◌, ◌∙◌, ◌+◌, ◌<◌, ◌++◌, ℕ, List, [], ◌∷◌, length, map, drop, get_or, Option, Some, None, IfSome, Ok, Err, refl, sym, ap, subst, append_assoc, add-one, drop-cons}
 use Rattle.std.specs.Io.KnownBytes.{Appends}
 use Rattle.hq_engine.specs.declared.engine.Engine.{Engine}
 use Rattle.hq_generator.specs.Lines.{reply_line, steps_line}

@@ -1,6 +1,6 @@
 -- What is due on the standard output for a request: bytes that tell data, its text of SQL or a fault; or the first refusal. It is
 -- a function of the directory's files, the headers and the input.
-use Rattle.std.specs.Prelude.{ℕ, List, [], ◌++◌, codes, unwrap_or, length, nat_lt, Option, Some, None, is_some, option_map, Result, Ok, Err, cond, if◌then◌else◌}
+use Rattle.std.specs.Prelude.{ℕ, List, [], ◌++◌, codes, unwrap_or, length, nat_lt, Option, Some, None, is_some, Result, Ok, Err, cond, if◌then◌else◌}
 use Rattle.hq_request_tree.specs.Request.{AskTree}
 use Rattle.hq_base.specs.Due.{◌>>=◌}
 use Rattle.hq_io.specs.declared.files.File.{File}

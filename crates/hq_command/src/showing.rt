@@ -1,5 +1,5 @@
 //! Telling of the program.
-ghost use Rattle.std.specs.Prelude.{◌≡◌, ◌≢◌, ◌≤◌, Ok, IsErrOf, IfErr};
+ghost use Rattle.std.specs.Prelude.{◌≢◌, ◌≤◌, Ok, IsErrOf, IfErr};
 ghost use Rattle.hq_io.specs.Causes.{Rose};
 ghost use Rattle.hq_command.specs.Ending.{Ends, NotDatabase, Silent};
 ghost use Rattle.hq_command.specs.Showing.{page_output};

@@ -1,5 +1,5 @@
 -- What `sql` writes is said yes to.
-use Rattle.std.proofs.Common.{◌≡◌, ◌∙◌, ◌⊎◌, inl, inr, ℕ, ◌+◌, ◌-◌, ◌≤◌, List, [], ◌∷◌, ◌++◌, length, take, get_or, Bool, true, false, cond, Some, None, Result, Ok, Err, refl, sym, ap, subst, arith}
+use Rattle.std.proofs.Common.{◌≡◌, ◌∙◌, ◌⊎◌, inl, inr, ℕ, ◌+◌, ◌-◌, ◌≤◌, List, [], length, take, get_or, Bool, true, false, cond, Some, None, Result, Ok, Err, refl, sym, ap, subst, arith}
 use Rattle.std.specs.Prelude.{codes, unwrap_or, nat_lt, ◌==◌}
 use Rattle.std.proofs.lemmas.List.{length-append, get_or_at, take_at}
 use Rattle.hq_request_tree.specs.Request.{AskTree}

@@ -1,5 +1,5 @@
 -- What the command writes is read back.
-use Rattle.std.proofs.Common.{◌≡◌, ℕ, List, Option, Some, None, IfSome, true, Result, Ok, Err, ap, sym, subst, ◌∙◌}
+use Rattle.std.proofs.Common.{◌≡◌, ℕ, List, Option, Some, None, IfSome, true, Result, Ok, Err, ap, subst}
 use Rattle.std.specs.Prelude.{OnOk}
 use Rattle.hq_copy.specs.Redacting.{copy_due}
 use Rattle.hq_copy_definition.specs.Copied.{Copied}

@@ -1,5 +1,5 @@
 -- How a run of `serve` ends: what the directory holds is served at a door.
-use Rattle.std.specs.Prelude.{◌≡◌, ◌⊎◌, ◌≤◌, ℕ, List, Option, Some, Result, Ok, Err, IfSome}
+use Rattle.std.specs.Prelude.{◌≡◌, ◌⊎◌, ℕ, List, Option, Some, Result, Ok, Err, IfSome}
 use Rattle.hq_io.specs.declared.files.File.{File}
 use Rattle.hq_load.specs.Loading.{Contents}
 use Rattle.hq_responder.specs.Due.{denies, gives}

@@ -1,5 +1,5 @@
 //! The sort keys of each list and the needed columns of each aggregate can be counted in 64 bits. Each is seen by a walk.
-ghost use Rattle.std.specs.Prelude.{◌≡◌, ◌≤◌, ◌^◌, ◌+◌, [], OnOk, length, map};
+ghost use Rattle.std.specs.Prelude.{◌≡◌, ◌≤◌, ◌^◌, ◌+◌, [], OnOk, length};
 ghost use Rattle.hq_model.specs.Schema.{table};
 ghost use Rattle.hq_model.specs.Selected.{entries};
 ghost use Rattle.hq_request_tree.specs.Arguments.{arguments_view};

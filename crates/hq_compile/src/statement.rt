@@ -1,5 +1,5 @@
 //! The statement of a typed request.
-ghost use Rattle.std.specs.Prelude.{◌≡◌, ◌≤◌, ◌+◌, ◌^◌, [], IfOk, OnOk, length, map, true, List as Items};
+ghost use Rattle.std.specs.Prelude.{◌≡◌, ◌≤◌, ◌+◌, ◌^◌, [], IfOk, OnOk, length, true, List as Items};
 ghost use Rattle.hq_model.specs.Database.{Row, is_database};
 ghost use Rattle.hq_model.specs.Fits.{fits};
 ghost use Rattle.hq_model.specs.Grants.{grants_of};

@@ -1,5 +1,5 @@
 -- The selects of lists, put together from their parts.
-use Rattle.std.proofs.Common.{◌≡◌, ◌∙◌, ℕ, ◌+◌, List, [], ◌++◌, false, Option, refl, ap, append_assoc}
+use Rattle.std.proofs.Common.{◌≡◌, ◌∙◌, ℕ, ◌+◌, List, [], ◌++◌, Option, refl, ap, append_assoc}
 use Rattle.hq_model.specs.Schema.{Schema, table}
 use Rattle.hq_model.specs.Selected.{ListArguments, smaller}
 use Rattle.hq_model.specs.declared.table.Column.{Column}

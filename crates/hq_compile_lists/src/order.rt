@@ -7,7 +7,7 @@ ghost use Rattle.hq_translation.specs.Conditions.{where_of};
 ghost use Rattle.hq_translation.specs.Looks.{type_in, compared_form, cell_at};
 ghost use Rattle.hq_translation.specs.Masks.{value_output};
 ghost use Rattle.hq_translation.specs.Names.{fold_alias, join_alias, key_name};
-ghost use Rattle.hq_translation.specs.Sorts.{end_of, sort_form, sort_place, sort_numbers, sort_joins, sorts_numbers, sorts_joins, orders, key_outputs, output_orders};
+ghost use Rattle.hq_translation.specs.Sorts.{end_of, sort_place, sort_numbers, sort_joins, sorts_numbers, sorts_joins, orders, key_outputs, output_orders};
 ghost use Rattle.hq_compile_tables.specs.Contexts.{context_schema, context_rights};
 ghost use Rattle.hq_compile_tables.specs.Selects.{first_row};
 ghost use Rattle.hq_compile_tables.specs.Shown.{look_in};

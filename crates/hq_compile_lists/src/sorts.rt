@@ -1,6 +1,6 @@
 //! The sort keys of a list.
 ghost use Rattle.std.specs.Prelude.{◌≡◌, ◌++◌, [], IfOk, OnOk, map, true, false};
-ghost use Rattle.hq_model.specs.Selected.{ascending, entries, sorts_or};
+ghost use Rattle.hq_model.specs.Selected.{ascending, entries};
 ghost use Rattle.hq_request_tree.specs.Arguments.{arguments_view, sort_view};
 ghost use Rattle.hq_translation.specs.Sorts.{shown_sorts, own_sorts};
 ghost use Rattle.hq_translation.specs.Lists.{once, list_sorts};

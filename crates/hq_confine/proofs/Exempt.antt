@@ -1,5 +1,5 @@
 -- Conjuncts that are exempt, and those that are not.
-use Rattle.std.proofs.Common.{◌≡◌, ◌∙◌, List, [], ◌++◌, Bool, true, false, cond, Option, None, refl, sym, ap}
+use Rattle.std.proofs.Common.{◌≡◌, ◌∙◌, List, [], ◌++◌, Bool, true, false, cond, None, refl, sym, ap}
 use Rattle.hq_model.specs.Grants.{Grants}
 use Rattle.hq_model.specs.Schema.{Schema}
 use Rattle.hq_model.specs.declared.test.Test.{Test}

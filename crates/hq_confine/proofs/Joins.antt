@@ -1,12 +1,12 @@
 -- One join more in scope.
-use Rattle.std.proofs.Common.{◌≡◌, ◌∙◌, refl, sym, ap, ℕ, List, [], ◌∷◌, ◌++◌, cond, true, Option}
+use Rattle.std.proofs.Common.{◌≡◌, ◌∙◌, refl, ap, ℕ, List, [], ◌∷◌, ◌++◌, cond, true, Option}
 use Rattle.hq_model.specs.Grants.{Grants}
 use Rattle.hq_model.specs.Schema.{Schema}
 use Rattle.hq_sql_tree.specs.Tree as tree
 use Rattle.hq_sql_tree.specs.Tree.{SelectTree, JoinTrees}
 use Rattle.hq_confine_rules.specs.Faults.{outputs_of, joined_shapes, select_faults, joins_faults, worse, worst}
 use Rattle.hq_confine_rules.specs.Members.{is_mask_join}
-use Rattle.hq_confine_rules.specs.Origins.{Origin, Shape, Shapes, outputs}
+use Rattle.hq_confine_rules.specs.Origins.{Origin, Shapes, outputs}
 use Rattle.hq_confine_rules.specs.Uses.{Fault}
 use Rattle.hq_confine_uses.specs.Views.{stacked}
 use Rattle.hq_confine_uses.proofs.Stacked.{stacked_last}

@@ -1,10 +1,10 @@
 -- Filters and masks that take few enough numbers of aliases.
-use Rattle.std.proofs.Common.{◌≡◌, ℕ, ◌+◌, ◌<◌, ◌≤◌, ◌^◌, List, [], ◌∷◌, Bool, true, false, cond, ◌==◌, Option, None, length}
+use Rattle.std.proofs.Common.{◌≡◌, ℕ, ◌+◌, ◌<◌, ◌≤◌, ◌^◌, List, [], ◌∷◌, Bool, true, false, cond, ◌==◌, None, length}
 use Rattle.std.proofs.Common.{ap, subst, sym, inl, inr, lit≤}
 use Rattle.std.specs.Prelude.{slice_index_or, unwrap_or}
 use Rattle.std.proofs.lemmas.List.{get_or_past}
 use Rattle.std.proofs.lemmas.Bool.{cases_lt}
-use Rattle.hq_model.specs.Bexp.{BexpTree, always, never}
+use Rattle.hq_model.specs.Bexp.{BexpTree}
 use Rattle.hq_model.specs.Grants.{Grants, grant, no_grant}
 use Rattle.hq_model.specs.Permission.{Mask, Permission}
 use Rattle.hq_model.specs.Permitted.{mask_of}

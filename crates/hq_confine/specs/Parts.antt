@@ -1,5 +1,5 @@
 -- The faults of a FROM in two parts: those of its select, and those of its scan.
-use Rattle.std.specs.Prelude.{ℕ, List, [], Bool, true}
+use Rattle.std.specs.Prelude.{List, [], Bool, true}
 use Rattle.hq_model.specs.Grants.{Grants}
 use Rattle.hq_model.specs.Schema.{Schema}
 use Rattle.hq_sql_tree.specs.Tree as tree

@@ -1,5 +1,5 @@
 //! Whether the filters and masks of what is granted can be written: the numbers of their aliases have 64 bits.
-ghost use Rattle.std.specs.Prelude.{◌≡◌, ℕ, ◌+◌, ◌^◌, ◌≤◌, OnOk, map};
+ghost use Rattle.std.specs.Prelude.{ℕ, ◌+◌, ◌^◌, ◌≤◌, OnOk, map};
 ghost use Rattle.hq_model.specs.Bexp.{bexp_view};
 ghost use Rattle.hq_model.specs.PermView.{mask_view};
 ghost use Rattle.hq_model.specs.Permitted.{mask_of};

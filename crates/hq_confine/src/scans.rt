@@ -1,6 +1,5 @@
 //! Scans: the rules of a filter, of the order of rows, and which conjuncts are exempt.
 ghost use Rattle.std.specs.Prelude.{◌≡◌, IfOk, map};
-ghost use Rattle.hq_sql_tree.specs.Tree.{orders_of};
 ghost use Rattle.hq_sql_tree.specs.View.{expr_view, from_view, order_view, pred_view};
 ghost use Rattle.hq_confine_rules.specs.Conjuncts.{opened};
 ghost use Rattle.hq_confine_rules.specs.Faults.{is_exempt, is_unordered, scan_faults, worst};

@@ -1,5 +1,5 @@
 -- Lists that are empty, and what they are seen as.
-use Rattle.std.proofs.Common.{◌≡◌, ◌==◌, ℕ, suc, ◌+◌, List, [], ◌∷◌, map, length, ◌&&◌, true, false, rules, refl, sym, ap, ◌∙◌, arith}
+use Rattle.std.proofs.Common.{◌≡◌, ◌==◌, List, [], ◌∷◌, map, length, ◌&&◌, false, rules, refl, sym, ap, ◌∙◌, arith}
 use Rattle.std.proofs.lemmas.Bool.{ne_eqb}
 use Rattle.std.specs.Global.{Vec}
 use Rattle.hq_sql_tree.specs.declared.expr.Agg as agg
@@ -7,7 +7,7 @@ use Rattle.hq_sql_tree.specs.declared.expr.Expr.{Expr, Object}
 use Rattle.hq_sql_tree.specs.declared.expr.ExprPair.{ExprPair}
 use Rattle.hq_sql_tree.specs.declared.select.Join.{Join}
 use Rattle.hq_sql_tree.specs.Tree as tree
-use Rattle.hq_sql_tree.specs.Tree.{ExprTree, joins_of, pairs_of}
+use Rattle.hq_sql_tree.specs.Tree.{joins_of, pairs_of}
 use Rattle.hq_sql_tree.specs.View.{expr_view, join_view, pair_view}
 use Rattle.hq_sql_tree.specs.Form.{is_no_join}
 use Rattle.hq_confine_rules.specs.Renamed.{Renaming, is_alike_expr}

@@ -1,5 +1,5 @@
 -- Conditions that are equal up to the aliases inside EXISTS have one truth.
-use Rattle.std.proofs.Common.{◌≡◌, ℕ, List, [], ◌∷◌, ◌++◌, map, flat_map, filter, length, Bool, true, false, cond, not, ◌&&◌, ◌||◌, ◌==◌, Option, Some, None, is_none, bytes_eq, refl, sym, ap, ap₂, ◌∙◌, subst, is_gt, Ordering, Equal, suc, arith, eqb-true}
+use Rattle.std.proofs.Common.{◌≡◌, ℕ, List, [], ◌∷◌, ◌++◌, map, flat_map, filter, length, Bool, true, false, cond, not, ◌&&◌, ◌||◌, ◌==◌, Option, Some, None, is_none, bytes_eq, refl, sym, ap, ap₂, ◌∙◌, is_gt, Ordering, Equal, suc, arith, eqb-true}
 use Rattle.std.specs.List.{list_all, list_any}
 use Rattle.std.specs.Ordering.{int_cmp, bool_cmp, is_eq}
 use Rattle.std.proofs.lemmas.Bool.{and_parts}
@@ -16,7 +16,7 @@ use Rattle.hq_sql_tree.specs.Form.{is_no_join}
 use Rattle.hq_sql_tree.specs.Meaning.{NamedRow, cell_named, Scope, with_alias, World, rows_named, value, order_cmp, outputs, has_rows, rows_of, joined, kept, truth_at, all_true, any_true}
 use Rattle.hq_translation.proofs.Conditions.{true_and}
 use Rattle.hq_confine_rules.specs.Conjuncts.{opened, all_opened, conjuncts}
-use Rattle.hq_confine_rules.specs.Renamed.{Renaming, stands_for, is_alike_expr, are_alike_exprs, is_alike_out, are_alike_outs, is_bare, alias_of, same_table, beside, is_alike, are_alike, is_alike_select, is_alike_filter}
+use Rattle.hq_confine_rules.specs.Renamed.{Renaming, stands_for, is_alike_expr, are_alike_exprs, are_alike_outs, is_bare, same_table, beside, is_alike, are_alike, is_alike_select, is_alike_filter}
 
 -- aliases that stand for one another show one row
 abbrev pub Related : Renaming → Scope → Scope → Type 0

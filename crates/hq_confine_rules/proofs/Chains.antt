@@ -1,26 +1,23 @@
 -- The joins of sort keys through relationships are without faults.
-use Rattle.std.proofs.Common.{◌≡◌, ℕ, suc, ◌+◌, ◌<◌, ◌≤◌, ◌^◌, List, [], ◌∷◌, ◌++◌, Bool, true, false, refl, sym, ap, ◌∙◌, subst, arith}
-use Rattle.hq_base.specs.Lists.{Each}
-use Rattle.hq_model.specs.Grants.{Grants, grant}
-use Rattle.hq_model.specs.Schema.{Schema, table, rel}
-use Rattle.hq_sql_tree.specs.Tree.{JoinTree, PredTree}
-use Rattle.hq_translation.specs.Looks.{Look, ColumnName, own_look, cell_at, is_used}
-use Rattle.hq_translation.specs.Masks.{value_place, extra, masks, shown_look, filter_numbers, filter_predicate}
-use Rattle.hq_translation.specs.Names.{join_alias, value_name}
+use Rattle.std.proofs.Common.{◌≡◌, ℕ, ◌+◌, ◌<◌, ◌≤◌, ◌^◌, List, [], ◌∷◌, ◌++◌, true, false, refl, arith}
+use Rattle.hq_model.specs.Grants.{Grants}
+use Rattle.hq_model.specs.Schema.{Schema, rel}
+use Rattle.hq_translation.specs.Looks.{Look, ColumnName, cell_at, is_used}
+use Rattle.hq_translation.specs.Masks.{extra, shown_look}
 use Rattle.hq_translation.specs.Predicates.{link}
 use Rattle.hq_translation.specs.GrantedTables.{GrantedTables, rights_of}
-use Rattle.hq_translation.specs.Selects.{filter_from, behind_filter, first_select}
-use Rattle.hq_translation.specs.Sorts.{Sort, last_used, sort_place, sort_numbers, sort_joins, sorts_numbers, sorts_joins}
+use Rattle.hq_translation.specs.Selects.{behind_filter}
+use Rattle.hq_translation.specs.Sorts.{last_used, sort_place, sort_numbers, sort_joins}
 use Rattle.hq_translation.proofs.Names.{used_one}
 use Rattle.hq_translation.proofs.Scopes.{under_later, looks_under_later}
 use Rattle.hq_confine_rules.specs.Conjuncts.{opened}
-use Rattle.hq_confine_rules.specs.Origins.{Origin, made, of, Shapes, scan, origin_at, origin, table_place}
+use Rattle.hq_confine_rules.specs.Origins.{Origin, made, of, Shapes, origin_at, origin}
 use Rattle.hq_confine_rules.specs.Uses.{is_plain, may_pass, out_faults}
 use Rattle.hq_confine_rules.specs.Faults.{is_exempt}
-use Rattle.hq_confine_rules.specs.Ready.{Ready, Permits, Leads, AllowedChain, AllowedSort}
+use Rattle.hq_confine_rules.specs.Ready.{Leads, AllowedChain}
 use Rattle.hq_confine_rules.proofs.Clean.{exempt_free}
 use Rattle.hq_confine_rules.proofs.Exempt.{link_exempt, shown_under}
-use Rattle.hq_confine_rules.proofs.Scopes.{Grows, Scans, scans_behind, Shows, shows_behind, Joined, joined_none, joined_then, joined_one, joined_as}
+use Rattle.hq_confine_rules.proofs.Scopes.{Grows, Scans, scans_behind, Shows, shows_behind, Joined, joined_none, joined_one, joined_as}
 use Rattle.hq_confine_rules.proofs.Wanted.{from_of, Behind, IsTied, first_clean}
 
 module _ (s : Schema) (g : Grants) where

@@ -1,40 +1,36 @@
 -- The filter of a scan and the link to another stand among its conjuncts, and are exempt; the join of a mask is one.
-use Rattle.std.proofs.Common.{◌≡◌, ℕ, suc, ◌+◌, ◌<◌, ◌≤◌, ◌^◌, List, [], ◌∷◌, ◌++◌, length, Bool, true, false, cond, not, ◌&&◌, ◌||◌, ◌==◌, Option, Some, None, bytes_eq, filter, refl, sym, ap, ◌∙◌, subst, arith, append-nil, append_assoc, eq-eqb, eqb-true}
-use Rattle.std.specs.Prelude.{slice_index_or}
+use Rattle.std.proofs.Common.{◌≡◌, ℕ, ◌+◌, ◌<◌, ◌≤◌, ◌^◌, List, [], ◌∷◌, ◌++◌, length, Bool, true, false, cond, not, ◌&&◌, ◌||◌, ◌==◌, Some, filter, refl, sym, ap, ◌∙◌, subst, arith, append_assoc, eq-eqb, eqb-true}
 use Rattle.std.specs.List.{list_all, list_any}
 use Rattle.hq_base.specs.Lists.{Each, Zip}
 use Rattle.hq_model.specs.Bexp.{BexpTree}
 use Rattle.hq_model.specs.Grants.{Grants, grant}
 use Rattle.hq_model.specs.Permission.{Mask}
-use Rattle.hq_model.specs.Permitted.{mask_of}
-use Rattle.hq_model.specs.Schema.{Schema, table, rel, no_rel}
+use Rattle.hq_model.specs.Schema.{Schema, table, rel}
 use Rattle.hq_model.specs.declared.meta.Pair.{Pair}
-use Rattle.hq_model.specs.declared.meta.Rel.{Rel}
 use Rattle.hq_model.specs.declared.op.Op.TheVariants.{Eq}
 use Rattle.hq_model.specs.declared.table.Column.{Column}
 use Rattle.hq_model.specs.declared.test.Test.TheVariants.{Compare}
 use Rattle.hq_sql_tree.specs.Tree as tree
-use Rattle.hq_sql_tree.specs.Tree.{PredTree, FromTree, JoinTree}
-use Rattle.hq_translation.specs.Conditions.{joined_by_and, with_member, where_of}
+use Rattle.hq_sql_tree.specs.Tree.{PredTree}
 use Rattle.hq_translation.specs.Fine.{Has}
-use Rattle.hq_translation.specs.Looks.{Look, name_of, own_look, cell_at, compared_at, is_used}
+use Rattle.hq_translation.specs.Looks.{name_of, own_look, compared_at, is_used}
 use Rattle.hq_translation.specs.Masks.{value_place, mask_numbers, mask_select, mask_joins, mask_look, used_masks, extra, masks, shown_look, filter_numbers, filter_predicate}
 use Rattle.hq_translation.specs.Names.{table_alias, join_alias, value_name}
 use Rattle.hq_translation.specs.Predicates.{link_members, link, own_numbers, own_predicate}
 use Rattle.hq_translation.specs.GrantedTables.{rights_of}
 use Rattle.hq_translation.proofs.Names.{same_text, table_aliases_differ}
 use Rattle.hq_translation.proofs.Scopes.{Under, under_join, under_later, LooksUnder, looks_under_later, own_under}
-use Rattle.hq_confine_rules.specs.Conjuncts.{opened, conjuncts}
-use Rattle.hq_confine_rules.specs.Origins.{Origin, of, scan, outputs, Shapes, shape_at, origin_in, origin_at, table_place}
-use Rattle.hq_confine_rules.specs.Renamed.{Renaming, stands_for, is_alike}
-use Rattle.hq_confine_rules.specs.Members.{filter_conjuncts, is_written, is_one_of, stand_among, Equation, equation, is_equation_of, is_for_pair, is_whole_link, links_shape, is_linking, has_mask, is_permitted, mask_conjuncts, shows_masked, shows_in, is_mask_join}
+use Rattle.hq_confine_rules.specs.Conjuncts.{opened}
+use Rattle.hq_confine_rules.specs.Origins.{scan, outputs, Shapes, shape_at, origin_at, table_place}
+use Rattle.hq_confine_rules.specs.Renamed.{stands_for}
+use Rattle.hq_confine_rules.specs.Members.{filter_conjuncts, is_one_of, stand_among, Equation, equation, is_equation_of, is_for_pair, is_whole_link, links_shape, is_linking, has_mask, is_permitted, mask_conjuncts, shows_masked, shows_in, is_mask_join}
 use Rattle.hq_confine_rules.specs.Uses.{is_plain}
-use Rattle.hq_confine_rules.specs.Faults.{outputs_of, is_exempt, select_faults}
-use Rattle.hq_confine_rules.specs.Ready.{IsMask, Ready, Leads, Permits}
+use Rattle.hq_confine_rules.specs.Faults.{is_exempt}
+use Rattle.hq_confine_rules.specs.Ready.{IsMask, Ready, Permits}
 use Rattle.hq_confine_rules.proofs.Clean.{where_one}
 use Rattle.hq_confine_rules.proofs.Renaming.{Alike, own_alike, opened_alike}
 use Rattle.hq_confine_rules.proofs.Filters.{or_left, or_right, any_right, any_pair, any_rel, link_opened, all_among, each_one_of, all_one_of}
-use Rattle.hq_confine_rules.proofs.Scopes.{Grows, grows_one, Scans, scans_behind, own_origin, Shows, First, Joined, joined_none, joined_then, joined_one, joined_as}
+use Rattle.hq_confine_rules.proofs.Scopes.{grows_one, Scans, scans_behind, own_origin, Shows, First, Joined, joined_none, joined_then, joined_one, joined_as}
 
 own_stands : (n : ℕ) → stands_for ((table_alias 0, table_alias n) ∷ []) (table_alias 0) (table_alias n) ≡ true
 own_stands n = rw (same_text (table_alias 0), same_text (table_alias n)) refl

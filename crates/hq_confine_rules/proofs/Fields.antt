@@ -1,45 +1,43 @@
 -- The joins and the values of fields are without faults where they ask for what is granted: so is each statement of a request.
-use Rattle.std.proofs.Common.{◌≡◌, ℕ, suc, ◌+◌, ◌<◌, ◌≤◌, ◌^◌, List, [], ◌∷◌, ◌++◌, length, Bool, true, false, cond, Option, Some, None, bytes_eq, refl, sym, ap, ◌∙◌, subst, arith}
+use Rattle.std.proofs.Common.{◌≡◌, ℕ, ◌+◌, ◌<◌, ◌≤◌, ◌^◌, List, [], ◌∷◌, ◌++◌, length, Bool, true, false, cond, refl, ap, ◌∙◌, arith}
 use Rattle.std.specs.Prelude.{slice_index_or}
 use Rattle.hq_base.specs.Lists.{Each}
 use Rattle.hq_base.specs.declared.value.Ty.{Ty}
 use Rattle.hq_base.specs.declared.value.Val.{Val}
 use Rattle.hq_base.specs.declared.value.Val.TheVariants as val
-use Rattle.hq_model.specs.Grants.{Grants, grant}
+use Rattle.hq_model.specs.Grants.{Grants}
 use Rattle.hq_model.specs.Schema.{Schema, SchemaTable, table, rel, no_table}
 use Rattle.hq_model.specs.Selected.{ListArguments}
-use Rattle.hq_model.specs.declared.op.Op.TheVariants.{Eq}
 use Rattle.hq_model.specs.declared.table.Column.{Column}
-use Rattle.hq_model.specs.declared.test.Test.TheVariants.{Compare}
 use Rattle.hq_request_tree.specs.Fields.{Origin as From, from_table, along, FieldTrees, no_field, field, FieldTree, column, typename, no_queries, object, list, by_key, aggregate, introspect, PartTrees, no_part, part, PartTree, summary, nodes, part_typename}
 use Rattle.hq_request_tree.specs.Resolve.{origin_table}
 use Rattle.hq_sql_tree.specs.declared.expr.ColumnForm.TheVariants.{Plain}
 use Rattle.hq_sql_tree.specs.Tree as tree
-use Rattle.hq_sql_tree.specs.Tree.{ExprTree, PairTrees, PairTree, SelectTree, JoinTree, PredTree, joins_of, pairs_of}
-use Rattle.hq_translation.specs.Aggregates.{needed, some_aggregate, summary_used, folded_select, plain_select}
+use Rattle.hq_sql_tree.specs.Tree.{ExprTree, SelectTree, JoinTree, PredTree, joins_of, pairs_of}
+use Rattle.hq_translation.specs.Aggregates.{some_aggregate, summary_used, folded_select, plain_select}
 use Rattle.hq_translation.proofs.TextLiterals.{of_either}
 use Rattle.hq_translation.specs.Conditions.{literal, joined_by_and}
 use Rattle.hq_translation.specs.Fields.{field_used, fields_used, key_used, origin_tie, key_members, fields_numbers, field_numbers, parts_numbers, part_numbers, field_value, fields_values, part_value, parts_values, empty_select, parts_select, kids_from, list_join, fields_joins, field_joins, parts_joins, part_joins}
 use Rattle.hq_translation.specs.Lists.{list_used, list_numbers, children_from, list_select}
-use Rattle.hq_translation.specs.Looks.{Look, own_look, type_in, cell_at, shown_at, compared_at, compared_form, shown_form, is_used}
-use Rattle.hq_translation.specs.Masks.{value_place, extra, masks, shown_look, filter_numbers, filter_predicate}
+use Rattle.hq_translation.specs.Looks.{Look, own_look, type_in, cell_at, shown_at, compared_form, shown_form}
+use Rattle.hq_translation.specs.Masks.{value_place, extra, shown_look}
 use Rattle.hq_translation.specs.Names.{table_alias, join_alias, value_name}
 use Rattle.hq_translation.specs.Predicates.{link}
 use Rattle.hq_translation.specs.GrantedTables.{GrantedTables, rights_of}
-use Rattle.hq_translation.specs.Selects.{filter_from, behind_filter, first_select}
+use Rattle.hq_translation.specs.Selects.{behind_filter}
 use Rattle.hq_translation.specs.Statement.{statement}
 use Rattle.hq_translation.proofs.Names.{same_text, used_one, used_left, used_right}
 use Rattle.hq_translation.proofs.Scopes.{under_table, under_later, looks_under_later}
 use Rattle.hq_confine_rules.specs.Conjuncts.{opened}
 use Rattle.hq_confine_rules.specs.Origins.{Shapes, outputs, origin_in, origin_at, origin}
 use Rattle.hq_confine_rules.specs.Uses.{is_plain, expr_faults, exprs_faults, pairs_faults, out_faults}
-use Rattle.hq_confine_rules.specs.Faults.{joined_shapes, is_exempt, joins_faults, faults}
-use Rattle.hq_confine_rules.specs.Ready.{Ready, Permits, Leads, AllowedOrigin, AllowedList, AllowedFields, AllowedField, AllowedParts, AllowedPart}
+use Rattle.hq_confine_rules.specs.Faults.{joined_shapes, is_exempt, faults}
+use Rattle.hq_confine_rules.specs.Ready.{Ready, AllowedOrigin, AllowedList, AllowedFields, AllowedField, AllowedParts, AllowedPart}
 use Rattle.hq_confine_rules.proofs.Chains.{link_ties}
 use Rattle.hq_confine_rules.proofs.Clean.{none, IsClean, and_clean, clean_free}
 use Rattle.hq_confine_rules.proofs.Exempt.{shown_under}
 use Rattle.hq_confine_rules.proofs.OneRow.{one_clean, one_first, shows_more, list_first, folded_first, plain_first}
-use Rattle.hq_confine_rules.proofs.Scopes.{Grows, grows_one, Scans, scans_behind, Shows, shows_behind, shows_left, shows_right, column_clean, First, Joined, joined_none, joined_then, joined_one, joined_as, sooner, joins_clean, joins_shapes}
+use Rattle.hq_confine_rules.proofs.Scopes.{Grows, grows_one, Scans, scans_behind, Shows, shows_behind, shows_left, shows_right, column_clean, First, Joined, joined_none, joined_then, joined_one, joined_as, joins_clean, joins_shapes}
 use Rattle.hq_confine_rules.proofs.Wanted.{from_of, Behind, IsTied, first_clean}
 
 module _ (s : Schema) (g : Grants) where

@@ -1,12 +1,9 @@
 -- The conjuncts of a scan's filter and of a link are exempt, and those of a mask make its join.
-use Rattle.std.proofs.Common.{◌≡◌, ℕ, zero, suc, ◌+◌, ◌<◌, ◌≤◌, ◌^◌, List, [], ◌∷◌, ◌++◌, length, Bool, true, false, cond, not, ◌&&◌, ◌||◌, ◌==◌, Option, Some, None, bytes_eq, refl, sym, ap, ◌∙◌, subst, arith, append-nil, eq-eqb}
+use Rattle.std.proofs.Common.{◌≡◌, ℕ, zero, suc, ◌+◌, ◌<◌, List, [], ◌∷◌, ◌++◌, length, Bool, true, false, ◌||◌, refl, ap, subst, arith}
 use Rattle.std.specs.Prelude.{slice_index_or}
 use Rattle.std.specs.List.{list_all, list_any}
 use Rattle.hq_base.specs.Lists.{Each, Zip}
-use Rattle.hq_model.specs.Grants.{Grants, grant}
-use Rattle.hq_model.specs.Permission.{Mask}
-use Rattle.hq_model.specs.Permitted.{mask_of}
-use Rattle.hq_model.specs.Schema.{Schema, table, rel, no_rel}
+use Rattle.hq_model.specs.Schema.{no_rel}
 use Rattle.hq_model.specs.declared.meta.Pair.{Pair}
 use Rattle.hq_model.specs.declared.meta.Rel.{Rel}
 use Rattle.hq_model.specs.declared.table.Column.{Column}
@@ -14,22 +11,13 @@ use Rattle.hq_model.specs.declared.op.Op.TheVariants.{Eq}
 use Rattle.hq_model.specs.declared.test.Test.TheVariants.{Compare}
 use Rattle.hq_sql_tree.specs.Tree as tree
 use Rattle.hq_sql_tree.specs.Tree.{PredTree, preds_of}
-use Rattle.hq_translation.specs.Conditions.{joined_by_and, with_member, where_of}
+use Rattle.hq_translation.specs.Conditions.{joined_by_and}
 use Rattle.hq_translation.specs.Looks.{own_look, compared_at}
-use Rattle.hq_translation.specs.Masks.{mask_select, filter_numbers, filter_predicate}
-use Rattle.hq_translation.specs.Names.{table_alias, value_name}
-use Rattle.hq_translation.specs.Predicates.{link_members, link, own_numbers, own_predicate}
-use Rattle.hq_translation.specs.GrantedTables.{rights_of}
-use Rattle.hq_translation.proofs.Names.{same_text, table_aliases_differ}
-use Rattle.hq_confine_rules.specs.Conjuncts.{opened, all_opened, conjuncts}
-use Rattle.hq_confine_rules.specs.Origins.{Origin, of, scan, Shapes, shape_at, origin_at}
-use Rattle.hq_confine_rules.specs.Renamed.{Renaming, is_alike}
-use Rattle.hq_confine_rules.specs.Members.{filter_conjuncts, is_written, is_one_of, stand_among, Equation, equation, is_equation_of, is_for_pair, is_whole_link, links_shape, is_linking, mask_conjuncts, shows_masked, is_mask_join}
-use Rattle.hq_confine_rules.specs.Faults.{outputs_of, select_faults}
-use Rattle.hq_confine_rules.specs.Ready.{IsMask, Ready, Leads}
-use Rattle.hq_confine_rules.proofs.Clean.{where_one}
-use Rattle.hq_confine_rules.proofs.Renaming.{Alike, own_alike, opened_alike}
-use Rattle.hq_confine_rules.proofs.Scopes.{Grows, grows_one, Scans, scans_behind, own_origin, First}
+use Rattle.hq_translation.specs.Names.{table_alias}
+use Rattle.hq_translation.specs.Predicates.{link_members}
+use Rattle.hq_confine_rules.specs.Conjuncts.{opened, all_opened}
+use Rattle.hq_confine_rules.specs.Members.{is_written, is_one_of, stand_among}
+use Rattle.hq_confine_rules.proofs.Renaming.{Alike}
 
 pub or_right : (a b : Bool) → b ≡ true → (a || b) ≡ true
 or_right true b h = refl

@@ -1,20 +1,20 @@
 -- The fold over the rows of a list is without faults: its keys are those of the rows, passed on by one alias.
-use Rattle.std.proofs.Common.{◌≡◌, ℕ, suc, ◌+◌, ◌<◌, ◌≤◌, ◌^◌, List, [], ◌∷◌, ◌++◌, length, Bool, true, false, cond, bytes_eq, refl, sym, ap, ◌∙◌, subst, arith, ◌==◌, ◌||◌, eq-eqb}
+use Rattle.std.proofs.Common.{◌≡◌, ℕ, suc, ◌+◌, ◌<◌, ◌≤◌, ◌^◌, List, [], ◌∷◌, length, true, false, bytes_eq, refl, ap, ◌∙◌, subst, arith, ◌==◌, ◌||◌, eq-eqb}
 use Rattle.std.specs.List.{list_any}
 use Rattle.hq_base.specs.Lists.{Each}
 use Rattle.hq_base.proofs.Lists.{each_weaken}
-use Rattle.hq_model.specs.Grants.{Grants, grant}
+use Rattle.hq_model.specs.Grants.{Grants}
 use Rattle.hq_model.specs.Schema.{Schema, table}
 use Rattle.hq_model.specs.Selected.{SortKey}
 use Rattle.hq_sql_tree.specs.Tree as tree
-use Rattle.hq_sql_tree.specs.Tree.{ExprTree, OrderTree, OrderTrees, OutTree, orders_of}
+use Rattle.hq_sql_tree.specs.Tree.{OrderTree, OrderTrees, OutTree, orders_of}
 use Rattle.hq_translation.specs.Fine.{Has}
-use Rattle.hq_translation.specs.Looks.{Look, name_of, own_look, cell_at}
-use Rattle.hq_translation.specs.Names.{table_alias, fold_alias, value_name, key_name}
+use Rattle.hq_translation.specs.Looks.{Look, name_of}
+use Rattle.hq_translation.specs.Names.{table_alias, fold_alias, key_name}
 use Rattle.hq_translation.specs.GrantedTables.{rights_of}
 use Rattle.hq_translation.specs.Sorts.{Sort, shown_sorts, own_sorts, sort_form, sort_numbers, key_outputs, output_orders}
-use Rattle.hq_translation.proofs.Names.{same_text, key_names_differ, value_is_no_key}
-use Rattle.hq_confine_rules.specs.Origins.{Origin, made, of, Shapes, outputs, shape_at, origin_in, origin_at, origin, behind, output_named, output_origins}
+use Rattle.hq_translation.proofs.Names.{same_text, key_names_differ}
+use Rattle.hq_confine_rules.specs.Origins.{Origin, of, Shapes, outputs, shape_at, origin_in, origin_at, behind, output_named, output_origins}
 use Rattle.hq_confine_rules.specs.Uses.{is_key, is_plain, is_run, may_pass, expr_faults, outs_faults, orders_faults}
 use Rattle.hq_confine_rules.specs.Ready.{Ready}
 use Rattle.hq_confine_rules.proofs.Chains.{plain_out}

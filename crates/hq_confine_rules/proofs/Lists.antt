@@ -1,31 +1,31 @@
 -- The rows of a list are without faults.
-use Rattle.std.proofs.Common.{◌≡◌, ℕ, suc, ◌+◌, ◌<◌, ◌≤◌, ◌^◌, List, [], ◌∷◌, ◌++◌, Bool, true, false, ◌||◌, Option, refl, sym, ap, ◌∙◌, subst, arith}
+use Rattle.std.proofs.Common.{◌≡◌, ℕ, ◌+◌, ◌≤◌, ◌^◌, List, [], ◌∷◌, ◌++◌, Bool, true, false, Option, refl, sym, ap, ◌∙◌, subst, arith}
 use Rattle.hq_base.specs.Lists.{Each}
-use Rattle.hq_model.specs.Grants.{Grants, grant}
+use Rattle.hq_model.specs.Grants.{Grants}
 use Rattle.hq_model.specs.Schema.{Schema, table}
 use Rattle.hq_model.specs.Selected.{SortKey, ListArguments, entries}
 use Rattle.hq_model.specs.declared.table.Column.{Column}
 use Rattle.hq_sql_tree.specs.Tree.{OrderTree, OrderTrees, OutTree, JoinTree, FilterTree, PredTree, joins_of, orders_of}
 use Rattle.hq_translation.specs.Conditions.{with_member, where_of}
-use Rattle.hq_translation.specs.Lists.{once, list_sorts, list_used, where_numbers, sorts_from, children_from, distinct_columns, list_rows}
-use Rattle.hq_translation.specs.Looks.{Look, type_in, compared_form, is_used}
-use Rattle.hq_translation.specs.Masks.{extra, masks, shown_look, filter_numbers, filter_predicate, where_mode}
+use Rattle.hq_translation.specs.Lists.{once, list_sorts, list_used, sorts_from, children_from, distinct_columns, list_rows}
+use Rattle.hq_translation.specs.Looks.{Look, type_in, compared_form}
+use Rattle.hq_translation.specs.Masks.{extra, masks, shown_look, filter_predicate, where_mode}
 use Rattle.hq_translation.specs.Names.{table_alias}
 use Rattle.hq_translation.specs.Predicates.{columns_in, predicate}
 use Rattle.hq_translation.specs.GrantedTables.{GrantedTables, rights_of}
-use Rattle.hq_translation.specs.Selects.{filter_from, behind_filter}
-use Rattle.hq_translation.specs.Sorts.{Sort, used_sorts, sorts_numbers, sorts_joins, orders, shown_sorts, own_sorts}
+use Rattle.hq_translation.specs.Selects.{behind_filter}
+use Rattle.hq_translation.specs.Sorts.{Sort, used_sorts, sorts_joins, orders, own_sorts}
 use Rattle.hq_translation.proofs.Names.{used_left, used_right, used_one}
 use Rattle.hq_translation.proofs.Scopes.{under_table, under_later, looks_under_later}
 use Rattle.hq_confine_rules.specs.Conjuncts.{opened, conjuncts}
 use Rattle.hq_confine_rules.specs.Origins.{Shapes}
 use Rattle.hq_confine_rules.specs.Members.{filter_conjuncts, stand_among}
 use Rattle.hq_confine_rules.specs.Uses.{has_run, exprs_faults, outs_faults, orders_faults}
-use Rattle.hq_confine_rules.specs.Faults.{is_exempt, is_unordered, select_faults, where_faults}
+use Rattle.hq_confine_rules.specs.Faults.{is_exempt, select_faults, where_faults}
 use Rattle.hq_confine_rules.specs.Ready.{Ready, Permits, Allowed, AllowedSort}
 use Rattle.hq_confine_rules.proofs.Clean.{none, clean_free, exempt_free, three_free, where_conjuncts}
 use Rattle.hq_confine_rules.proofs.Exempt.{filter_stands, filter_exempt, shown_under}
-use Rattle.hq_confine_rules.proofs.Runs.{in_front, Run, covered, stands}
+use Rattle.hq_confine_rules.proofs.Runs.{in_front, covered, stands}
 use Rattle.hq_confine_rules.proofs.Scopes.{Shows, shows_behind, shows_left, shows_right, column_clean, Joined, joined_then, sooner, joins_clean, joins_shapes}
 use Rattle.hq_confine_rules.proofs.Sorts.{behind_sorts, entry_orders, orders_split, EntriesPlain, entries_clean, sorts_joined, rows_run}
 use Rattle.hq_confine_rules.proofs.Wanted.{from_of, with_scan, rows_clean, wanted_clean, Behind, alias_joins, IsTied}

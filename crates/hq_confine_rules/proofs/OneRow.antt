@@ -1,9 +1,8 @@
 -- Rows over One with an object, lists and aggregates are without faults where their parts are.
-use Rattle.std.proofs.Common.{◌≡◌, ℕ, suc, ◌+◌, ◌<◌, ◌≤◌, ◌^◌, List, [], ◌∷◌, ◌++◌, length, Bool, true, false, cond, ◌&&◌, ◌||◌, Option, Some, None, bytes_eq, refl, sym, ap, ◌∙◌, subst, arith}
-use Rattle.hq_base.specs.Lists.{Each}
+use Rattle.std.proofs.Common.{◌≡◌, ℕ, ◌+◌, ◌≤◌, ◌^◌, List, [], ◌∷◌, ◌++◌, Bool, true, false, cond, ◌||◌, Some, None, bytes_eq, refl, ap, ◌∙◌, arith}
 use Rattle.hq_base.specs.declared.aggregate.Aggregate.{Aggregate}
-use Rattle.hq_model.specs.Grants.{Grants, grant}
-use Rattle.hq_model.specs.Schema.{Schema, table, rel}
+use Rattle.hq_model.specs.Grants.{Grants}
+use Rattle.hq_model.specs.Schema.{Schema, table}
 use Rattle.hq_model.specs.Selected.{SortKey, ListArguments, entries, smaller}
 use Rattle.hq_model.specs.declared.table.Column.{Column}
 use Rattle.hq_request_tree.specs.declared.aggregate.AggCol.{AggCol}
@@ -16,27 +15,26 @@ use Rattle.hq_sql_tree.specs.declared.expr.ColumnForm.{ColumnForm}
 use Rattle.hq_sql_tree.specs.declared.expr.ColumnForm.TheVariants.{Plain}
 use Rattle.hq_sql_tree.specs.Tree as tree
 use Rattle.hq_sql_tree.specs.Tree.{ExprTree, PairTrees, PairTree, OutTree, SelectTree, JoinTree, FilterTree, PredTree, joins_of, pairs_of, orders_of}
-use Rattle.hq_translation.specs.Aggregates.{needed, counted_form, is_taken, some_taken, is_aggregate, some_aggregate, needed_cell, taken_value, taken_pairs, count_value, summary_value, summary_pairs, needed_columns, needed_outputs, summary_used, folded_select, plain_select, place_of}
-use Rattle.hq_translation.specs.Lists.{once, list_sorts, list_used, sorts_from, children_from, list_rows, list_outputs, list_select}
-use Rattle.hq_translation.specs.Looks.{Look, cell_at, is_used, type_in, compared_form}
+use Rattle.hq_translation.specs.Aggregates.{needed, counted_form, is_taken, some_taken, is_aggregate, some_aggregate, needed_cell, taken_value, taken_pairs, summary_value, summary_pairs, needed_columns, needed_outputs, summary_used, folded_select, plain_select, place_of}
+use Rattle.hq_translation.specs.Lists.{once, list_sorts, list_used, sorts_from, children_from, list_outputs, list_select}
+use Rattle.hq_translation.specs.Looks.{Look, type_in, compared_form}
 use Rattle.hq_translation.specs.Masks.{value_output, shown_look}
-use Rattle.hq_translation.specs.Names.{table_alias, fold_alias, value_name, key_name, needed_name, unit_name}
+use Rattle.hq_translation.specs.Names.{table_alias, fold_alias, value_name, needed_name, unit_name}
 use Rattle.hq_translation.specs.Predicates.{columns_in}
 use Rattle.hq_translation.specs.GrantedTables.{GrantedTables, rights_of}
 use Rattle.hq_translation.specs.Sorts.{used_sorts, output_orders}
 use Rattle.hq_translation.proofs.Names.{same_text, value_is_no_key, used_one, used_left, used_right}
 use Rattle.hq_confine_rules.specs.Conjuncts.{conjuncts}
-use Rattle.hq_confine_rules.specs.Origins.{Origin, made, of, Shapes, outputs, shape_at, origin_in, origin_at, origin, behind, output_named, output_origins}
+use Rattle.hq_confine_rules.specs.Origins.{Origin, made, Shapes, outputs, shape_at, origin_in, origin_at, behind, output_named, output_origins}
 use Rattle.hq_confine_rules.specs.Members.{is_mask_join}
-use Rattle.hq_confine_rules.specs.Uses.{Fault, is_plain, shows_order, expr_faults, pairs_faults, outs_faults, out_faults}
+use Rattle.hq_confine_rules.specs.Uses.{Fault, is_plain, shows_order, expr_faults, pairs_faults, outs_faults}
 use Rattle.hq_confine_rules.specs.Faults.{outputs_of, joined_shapes, is_exempt, select_faults, joins_faults, where_faults}
 use Rattle.hq_confine_rules.specs.Ready.{Ready, AllowedList}
 use Rattle.hq_confine_rules.proofs.Chains.{plain_out}
 use Rattle.hq_confine_rules.proofs.Clean.{none}
 use Rattle.hq_confine_rules.proofs.Folds.{each_own, keys_clean, orders_passed}
-use Rattle.hq_confine_rules.proofs.Lists.{ListSeen, all_joins, list_joined, list_clean}
-use Rattle.hq_confine_rules.proofs.Scopes.{Grows, Shows, shows_right, behind_plain, column_clean, First, Joined, joined_none, joins_clean, joins_shapes}
-use Rattle.hq_confine_rules.proofs.Sorts.{EntriesPlain}
+use Rattle.hq_confine_rules.proofs.Lists.{all_joins, list_joined, list_clean}
+use Rattle.hq_confine_rules.proofs.Scopes.{Shows, shows_right, behind_plain, column_clean, First, Joined, joined_none, joins_shapes}
 use Rattle.hq_confine_rules.proofs.Wanted.{with_scan, Behind, IsTied}
 
 module _ (s : Schema) (g : Grants) where

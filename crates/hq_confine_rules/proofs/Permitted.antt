@@ -1,5 +1,5 @@
 -- A scan that meets rule 2 keeps permitted rows alone.
-use Rattle.std.proofs.Common.{◌≡◌, ℕ, ◌+◌, ◌<◌, ◌≤◌, ◌^◌, List, [], ◌∷◌, Bool, true, false, cond, not, ◌&&◌, ◌||◌, bytes_eq, refl, sym, ap, ◌∙◌, arith}
+use Rattle.std.proofs.Common.{◌≡◌, ℕ, ◌+◌, ◌≤◌, ◌^◌, List, [], ◌∷◌, Bool, true, false, cond, not, ◌&&◌, ◌||◌, bytes_eq, refl, sym, ap, ◌∙◌, arith}
 use Rattle.std.specs.List.{list_all, list_any}
 use Rattle.std.proofs.lemmas.Bool.{and_parts}
 use Rattle.hq_model.specs.Database.{Row}
@@ -17,9 +17,8 @@ use Rattle.hq_translation.specs.GrantedTables.{rights_of}
 use Rattle.hq_translation.proofs.Names.{same_text, equal_text, Narrow, shows_row}
 use Rattle.hq_translation.proofs.Predicates.{own_means}
 use Rattle.hq_translation.proofs.Sound.{Sound}
-use Rattle.hq_confine_rules.specs.Conjuncts.{opened, conjuncts}
+use Rattle.hq_confine_rules.specs.Conjuncts.{conjuncts}
 use Rattle.hq_confine_rules.specs.Members.{filter_conjuncts, is_written, stand_among}
-use Rattle.hq_confine_rules.specs.Renamed.{stands_for}
 use Rattle.hq_confine_rules.proofs.Alike.{Related, truth_alike, is_so, true_opened, kept_conjuncts}
 
 -- what holds of all conjuncts holds of one that is found among them

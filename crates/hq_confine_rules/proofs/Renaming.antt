@@ -1,8 +1,7 @@
 -- A filter and a mask are equal, up to the aliases inside EXISTS, at all aliases; and so are their conjuncts.
-use Rattle.std.proofs.Common.{◌≡◌, ℕ, ◌+◌, ◌<◌, ◌≤◌, ◌^◌, List, [], ◌∷◌, ◌++◌, map, Bool, true, false, cond, not, ◌&&◌, ◌||◌, bytes_eq, refl, sym, ap, ◌∙◌, arith, ℤ, Ordering, Less, Equal, Greater}
+use Rattle.std.proofs.Common.{◌≡◌, ℕ, ◌+◌, ◌<◌, ◌≤◌, ◌^◌, List, [], ◌∷◌, ◌++◌, map, Bool, true, false, cond, refl, arith, ℤ, Ordering, Less, Equal, Greater}
 use Rattle.std.proofs.lemmas.Cmp.{int_cmp_total}
 use Rattle.std.specs.Ordering.{ordering_reverse}
-use Rattle.std.specs.List.{list_all, list_any}
 use Rattle.std.specs.Ordering.{int_cmp, bool_cmp, is_eq}
 use Rattle.std.proofs.lemmas.Bool.{and_parts}
 use Rattle.hq_base.specs.Lists.{Zip}
@@ -15,7 +14,6 @@ use Rattle.hq_model.specs.Tests.{arity, is_of_nothing}
 use Rattle.hq_model.specs.declared.bexp.Operand.{Operand}
 use Rattle.hq_model.specs.declared.bexp.Operand.TheVariants.{Const, Session}
 use Rattle.hq_model.specs.declared.meta.Pair.{Pair}
-use Rattle.hq_model.specs.declared.meta.Rel.{Rel}
 use Rattle.hq_model.specs.declared.table.Column.{Column}
 use Rattle.hq_model.specs.declared.test.Arity.{Arity}
 use Rattle.hq_model.specs.declared.test.Arity.TheVariants.{Nothing, One, Many}
@@ -29,11 +27,10 @@ use Rattle.hq_translation.specs.Names.{table_alias, unit_name}
 use Rattle.hq_translation.specs.Looks.{own_look, type_in, tested_at, tested_form, compared_form, name_of}
 use Rattle.hq_translation.proofs.TextLiterals.{of_either}
 use Rattle.hq_translation.specs.Conditions.{literal, operand_literal, joined_by_and, joined_by_or, with_member, where_of, negation_if, literals_for, test_of}
-use Rattle.hq_translation.specs.Predicates.{link_members, link, columns_in, numbers, numbers_all, predicate, predicates, filter_mode, own_numbers, own_predicate}
+use Rattle.hq_translation.specs.Predicates.{link_members, link, numbers, numbers_all, predicate, predicates, filter_mode, own_numbers, own_predicate}
 use Rattle.hq_translation.proofs.Names.{same_text, table_aliases_differ}
 use Rattle.hq_confine_rules.specs.Conjuncts.{opened, all_opened}
-use Rattle.hq_confine_rules.specs.Renamed.{Renaming, stands_for, is_alike_expr, are_alike_exprs, is_alike, are_alike, is_alike_select, is_alike_filter}
-use Rattle.hq_confine_rules.specs.Members.{is_written, is_one_of, stand_among}
+use Rattle.hq_confine_rules.specs.Renamed.{Renaming, stands_for, is_alike_expr, are_alike_exprs, is_alike, are_alike, is_alike_filter}
 
 -- ---- the same
 

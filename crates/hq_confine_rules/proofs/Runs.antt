@@ -1,5 +1,5 @@
 -- Sort keys that are plain, in front of the run of a scan's own key, have no faults.
-use Rattle.std.proofs.Common.{◌≡◌, ℕ, zero, suc, ◌+◌, ◌≤◌, List, [], ◌∷◌, ◌++◌, length, Bool, true, false, cond, not, ◌&&◌, ◌||◌, ◌==◌, bytes_eq, refl, sym, ap, ◌∙◌, subst, arith, eqb-true, eq-eqb}
+use Rattle.std.proofs.Common.{◌≡◌, ℕ, zero, suc, ◌+◌, ◌≤◌, List, [], ◌∷◌, ◌++◌, length, Bool, true, false, cond, not, ◌&&◌, ◌||◌, ◌==◌, bytes_eq, refl, sym, ap, ◌∙◌, arith, eqb-true, eq-eqb}
 use Rattle.std.specs.List.{list_any}
 use Rattle.std.proofs.lemmas.Bool.{and_parts, ne_eqb}
 use Rattle.std.proofs.lemmas.Slice.Eq.{bytes_eq-Decides}
@@ -9,7 +9,7 @@ use Rattle.hq_model.specs.Schema.{Schema, table}
 use Rattle.hq_sql_tree.specs.Tree as tree
 use Rattle.hq_sql_tree.specs.Tree.{ExprTree, OrderTree, OrderTrees, orders_of}
 use Rattle.hq_confine_rules.specs.Origins.{Origin, made, of, Shapes, origin, same_path, is_of}
-use Rattle.hq_confine_rules.specs.Uses.{Fault, is_key_sort, is_run, run_from, has_run, less_one, expr_faults, orders_faults}
+use Rattle.hq_confine_rules.specs.Uses.{is_key_sort, is_run, run_from, has_run, less_one, expr_faults, orders_faults}
 use Rattle.hq_confine_rules.proofs.Clean.{none}
 
 abbrev pub size : OrderTrees → ℕ

@@ -1,19 +1,16 @@
 -- What a scope shows of aliases, by their numbers.
-use Rattle.std.proofs.Common.{◌≡◌, ℕ, suc, ◌+◌, ◌<◌, ◌≤◌, ◌^◌, List, [], ◌∷◌, ◌++◌, Bool, true, false, cond, Option, Some, None, bytes_eq, refl, sym, ap, ◌∙◌, arith, append_assoc, append-nil}
-use Rattle.hq_base.specs.Lists.{Each}
-use Rattle.hq_model.specs.Grants.{Grants, grant}
+use Rattle.std.proofs.Common.{◌≡◌, ℕ, ◌+◌, ◌<◌, ◌≤◌, ◌^◌, List, [], ◌∷◌, ◌++◌, true, cond, refl, sym, ap, ◌∙◌, arith, append_assoc, append-nil}
+use Rattle.hq_model.specs.Grants.{Grants}
 use Rattle.hq_model.specs.Schema.{Schema, table}
-use Rattle.hq_model.specs.declared.table.Column.{Column}
 use Rattle.hq_sql_tree.specs.declared.expr.ColumnForm.{ColumnForm}
-use Rattle.hq_sql_tree.specs.Tree.{ExprTree, column, SelectTree, JoinTree, joins_of}
+use Rattle.hq_sql_tree.specs.Tree.{column, SelectTree, JoinTree, joins_of}
 use Rattle.hq_translation.specs.Fine.{Has}
-use Rattle.hq_translation.specs.Looks.{Look, ColumnName, name_of, own_look, is_used, cell_at}
-use Rattle.hq_translation.specs.Masks.{value_place}
-use Rattle.hq_translation.specs.Names.{table_alias, fold_alias, join_alias, value_name}
+use Rattle.hq_translation.specs.Looks.{Look, name_of, is_used}
+use Rattle.hq_translation.specs.Names.{table_alias, join_alias, value_name}
 use Rattle.hq_translation.proofs.Names.{same_text, used_left, used_right}
-use Rattle.hq_translation.proofs.Scopes.{Under, under_table, under_join, under_later, LooksUnder, looks_under_later, own_under}
-use Rattle.hq_confine_rules.specs.Origins.{Origin, made, of, Shape, scan, outputs, Shapes, shape_at, origin_in, origin_at, origin, column_of, behind, output_named}
-use Rattle.hq_confine_rules.specs.Uses.{Fault, is_plain, expr_faults}
+use Rattle.hq_translation.proofs.Scopes.{Under, under_table, under_join, under_later, LooksUnder}
+use Rattle.hq_confine_rules.specs.Origins.{Origin, made, of, Shape, scan, outputs, Shapes, shape_at, origin_in, origin_at, column_of, behind, output_named}
+use Rattle.hq_confine_rules.specs.Uses.{is_plain, expr_faults}
 use Rattle.hq_confine_rules.specs.Members.{is_mask_join}
 use Rattle.hq_confine_rules.specs.Faults.{outputs_of, joined_shapes, select_faults, joins_faults}
 use Rattle.hq_confine_rules.specs.Ready.{Ready}

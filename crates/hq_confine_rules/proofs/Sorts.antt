@@ -1,25 +1,24 @@
 -- The sort keys of a list are plain ones in front of the run of its key, in the list's rows and in the fold over them.
-use Rattle.std.proofs.Common.{◌≡◌, ℕ, zero, suc, ◌+◌, ◌<◌, ◌≤◌, ◌^◌, List, [], ◌∷◌, ◌++◌, length, Bool, true, false, cond, bytes_eq, refl, sym, ap, ◌∙◌, subst, arith, eq-eqb, ◌==◌}
+use Rattle.std.proofs.Common.{◌≡◌, ℕ, suc, ◌+◌, ◌<◌, ◌≤◌, ◌^◌, List, [], ◌∷◌, length, true, false, refl, ap, ◌∙◌, subst, arith, eq-eqb, ◌==◌}
 use Rattle.hq_base.specs.Lists.{Each}
-use Rattle.hq_model.specs.Grants.{Grants, grant}
-use Rattle.hq_model.specs.Schema.{Schema, table, rel}
+use Rattle.hq_model.specs.Grants.{Grants}
+use Rattle.hq_model.specs.Schema.{Schema, table}
 use Rattle.hq_model.specs.Selected.{SortKey}
 use Rattle.hq_sql_tree.specs.Tree as tree
-use Rattle.hq_sql_tree.specs.Tree.{ExprTree, OrderTree, OrderTrees, OutTree, JoinTree, orders_of}
+use Rattle.hq_sql_tree.specs.Tree.{OrderTree, OrderTrees, orders_of}
 use Rattle.hq_translation.specs.Fine.{Has}
-use Rattle.hq_translation.specs.Looks.{Look, ColumnName, own_look, is_used}
-use Rattle.hq_translation.specs.Names.{table_alias, fold_alias, value_name, key_name}
+use Rattle.hq_translation.specs.Looks.{Look, ColumnName}
+use Rattle.hq_translation.specs.Names.{table_alias}
 use Rattle.hq_translation.specs.GrantedTables.{GrantedTables, rights_of}
-use Rattle.hq_translation.specs.Sorts.{Sort, shown_sorts, own_sorts, used_by, used_sorts, last_used, sort_form, sort_place, sort_numbers, sort_joins, sorts_numbers, sorts_joins, orders, key_outputs, output_orders}
-use Rattle.hq_translation.proofs.Names.{same_text, used_left, used_right, key_names_differ}
+use Rattle.hq_translation.specs.Sorts.{Sort, shown_sorts, own_sorts, used_sorts, last_used, sort_form, sort_place, sort_numbers, sort_joins, sorts_numbers, sorts_joins, orders}
+use Rattle.hq_translation.proofs.Names.{same_text}
 use Rattle.hq_translation.proofs.Scopes.{under_later}
-use Rattle.hq_confine_rules.specs.Origins.{Origin, made, of, Shapes, outputs, shape_at, origin_in, origin_at, origin, behind, output_named, output_origins}
-use Rattle.hq_confine_rules.specs.Uses.{is_plain, is_run, may_pass, expr_faults, outs_faults}
+use Rattle.hq_confine_rules.specs.Origins.{Shapes}
+use Rattle.hq_confine_rules.specs.Uses.{is_run, expr_faults}
 use Rattle.hq_confine_rules.specs.Ready.{Ready, AllowedSort}
-use Rattle.hq_confine_rules.proofs.Clean.{none}
-use Rattle.hq_confine_rules.proofs.Chains.{PlainAt, chain_clean, plain_out}
+use Rattle.hq_confine_rules.proofs.Chains.{PlainAt, chain_clean}
 use Rattle.hq_confine_rules.proofs.Runs.{size, in_front, Run}
-use Rattle.hq_confine_rules.proofs.Scopes.{Grows, Scans, scans_behind, own_origin, Shows, shows_left, shows_right, behind_plain, column_clean, Joined, joined_none, joined_then, joined_as, sooner}
+use Rattle.hq_confine_rules.proofs.Scopes.{Grows, Scans, scans_behind, own_origin, Shows, shows_left, shows_right, column_clean, Joined, joined_none, joined_then, joined_as, sooner}
 
 module _ (s : Schema) (g : Grants) (t p : ℕ) (look : Look) where
   -- the numbers behind entries

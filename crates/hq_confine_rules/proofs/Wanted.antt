@@ -1,9 +1,8 @@
 -- The `where` of a request, and the first row of a table, are without faults where they use what is granted.
-use Rattle.std.proofs.Common.{◌≡◌, ℕ, suc, ◌+◌, ◌<◌, ◌≤◌, ◌^◌, List, [], ◌∷◌, ◌++◌, length, Bool, true, false, cond, not, ◌&&◌, ◌||◌, ◌==◌, Option, Some, None, bytes_eq, is_none, refl, sym, ap, ◌∙◌, subst, arith, eq-eqb}
-use Rattle.std.specs.List.{list_any}
+use Rattle.std.proofs.Common.{◌≡◌, ℕ, suc, ◌+◌, ◌<◌, ◌≤◌, ◌^◌, List, [], ◌∷◌, ◌++◌, length, Bool, true, false, cond, ◌||◌, ◌==◌, Option, Some, None, bytes_eq, refl, sym, ap, ◌∙◌, subst, arith, eq-eqb}
 use Rattle.hq_base.specs.Lists.{Each}
 use Rattle.hq_model.specs.Bexp.{BexpTree, always, and_of, or_of, not_of, test, through, exists_in, two_columns, BexpTrees, no_bexp, bexp, operands_of}
-use Rattle.hq_model.specs.Grants.{Grants, grant}
+use Rattle.hq_model.specs.Grants.{Grants}
 use Rattle.hq_model.specs.Schema.{Schema, table, rel}
 use Rattle.hq_model.specs.Tests.{is_of_nothing}
 use Rattle.hq_model.specs.declared.table.Column.{Column}
@@ -11,24 +10,24 @@ use Rattle.hq_sql_tree.specs.Tree as tree
 use Rattle.hq_sql_tree.specs.Tree.{ExprTree, OrderTree, OrderTrees, OutTree, SelectTree, FromTree, JoinTree, JoinTrees, FilterTree, PredTree, orders_of, joins_of}
 use Rattle.hq_translation.specs.Conditions.{with_member, where_of}
 use Rattle.hq_translation.specs.Fine.{Has}
-use Rattle.hq_translation.specs.Looks.{Look, name_of, own_look, compared_at, tested_at, tested_form, compared_form, is_used, type_in}
+use Rattle.hq_translation.specs.Looks.{Look, tested_at, tested_form, compared_form, type_in}
 use Rattle.hq_translation.specs.Masks.{value_output, extra, masks, shown_look, filter_numbers, filter_predicate, where_mode}
 use Rattle.hq_translation.specs.Names.{table_alias, value_name, unit_name}
-use Rattle.hq_translation.specs.Predicates.{columns_in, columns_in_all, guard_from, inner_from, numbers, numbers_all, predicate, predicates, link}
+use Rattle.hq_translation.specs.Predicates.{columns_in, columns_in_all, numbers, numbers_all, predicate, predicates, link}
 use Rattle.hq_translation.specs.GrantedTables.{GrantedTables, rights_of}
 use Rattle.hq_translation.specs.Selects.{key_orders, filter_from, behind_filter, first_select}
 use Rattle.hq_translation.proofs.Names.{same_text, used_one, used_left, used_right, used_else}
 use Rattle.hq_translation.proofs.Scopes.{under_later, LooksUnder, looks_under_later}
 use Rattle.hq_confine_rules.specs.Conjuncts.{opened, conjuncts}
-use Rattle.hq_confine_rules.specs.Origins.{Origin, made, of, scan, Shapes, shape_at, origin_at, origin, output_named, table_place}
+use Rattle.hq_confine_rules.specs.Origins.{Origin, made, scan, Shapes, origin, output_named, table_place}
 use Rattle.hq_confine_rules.specs.Members.{filter_conjuncts, stand_among, is_mask_join}
-use Rattle.hq_confine_rules.specs.Uses.{Fault, is_plain, is_run, has_run, expr_faults, exprs_faults, out_faults, outs_faults, orders_faults}
-use Rattle.hq_confine_rules.specs.Faults.{outputs_of, joined_shapes, is_exempt, is_unordered, scan_faults, select_faults, joins_faults, where_faults, conjunct_faults, pred_faults}
-use Rattle.hq_confine_rules.specs.Ready.{Ready, Permits, Leads, Allowed, AllAllowed}
+use Rattle.hq_confine_rules.specs.Uses.{Fault, is_plain, is_run, has_run, exprs_faults, out_faults, outs_faults, orders_faults}
+use Rattle.hq_confine_rules.specs.Faults.{outputs_of, joined_shapes, is_exempt, is_unordered, scan_faults, select_faults, joins_faults, where_faults}
+use Rattle.hq_confine_rules.specs.Ready.{Ready, Permits, Allowed, AllAllowed}
 use Rattle.hq_confine_rules.proofs.Clean.{none, IsClean, and_clean, or_clean, test_clean, IsFree, clean_free, exempt_free, three_free, two_free, where_conjuncts, where_pair}
 use Rattle.hq_confine_rules.proofs.Exempt.{filter_stands, filter_exempt, link_exempt, shown_clean, shown_under}
 use Rattle.hq_confine_rules.proofs.Runs.{size, Run, covered, stands}
-use Rattle.hq_confine_rules.proofs.Scopes.{Grows, grows_one, Scans, scans_behind, own_origin, Shows, shows_behind, shows_left, shows_right, column_clean, First, Joined, joined_then, sooner, joins_clean, joins_shapes}
+use Rattle.hq_confine_rules.proofs.Scopes.{Grows, grows_one, Scans, scans_behind, own_origin, Shows, shows_left, shows_right, column_clean, First, Joined, joined_then, sooner, joins_clean, joins_shapes}
 
 self_eq : (n : ℕ) → (n == n) ≡ true
 self_eq n = let e = eq-eqb n n refl in rw e refl

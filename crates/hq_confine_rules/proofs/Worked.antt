@@ -20,7 +20,7 @@ use Rattle.hq_request_tree.specs.declared.aggregate.AggField.TheVariants as take
 use Rattle.hq_request_tree.specs.Fields.{FieldTrees, no_field, field, FieldTree, column, object, list, by_key, aggregate, from_table, along, no_part, part, summary, nodes}
 use Rattle.hq_sql_tree.specs.declared.expr.ColumnForm.TheVariants.{Plain}
 use Rattle.hq_sql_tree.specs.Tree as tree
-use Rattle.hq_sql_tree.specs.Tree.{ExprTree, OutTree, OrderTree, SelectTree, FromTree, JoinTrees, FilterTree, PredTree}
+use Rattle.hq_sql_tree.specs.Tree.{ExprTree, OrderTree, SelectTree, JoinTrees, FilterTree, PredTree}
 use Rattle.hq_translation.specs.GrantedTables.{rights_of}
 use Rattle.hq_translation.specs.Names.{table_alias, fold_alias, join_alias, value_name, key_name, needed_name, unit_name}
 use Rattle.hq_translation.specs.Statement.{statement}

@@ -10,7 +10,7 @@ use Rattle.hq_model.specs.declared.meta.Rel.{Rel}
 use Rattle.hq_model.specs.declared.op.Op.TheVariants.{Eq}
 use Rattle.hq_model.specs.declared.test.Test.TheVariants.{Compare}
 use Rattle.hq_sql_tree.specs.Tree as tree
-use Rattle.hq_sql_tree.specs.Tree.{ExprTree, OutTree, SelectTree, FromTree, FilterTree, PredTree}
+use Rattle.hq_sql_tree.specs.Tree.{ExprTree, OutTree, SelectTree, PredTree}
 use Rattle.hq_sql_tree.specs.Form.{is_one, is_no_join}
 use Rattle.hq_translation.specs.Names.{table_alias}
 use Rattle.hq_translation.specs.Looks.{name_of}

@@ -7,7 +7,7 @@ use Rattle.hq_model.specs.Grants.{Grants, grant}
 use Rattle.hq_model.specs.Permission.{Mask}
 use Rattle.hq_model.specs.Permitted.{mask_of}
 use Rattle.hq_model.specs.Schema.{Schema, table, rel}
-use Rattle.hq_model.specs.Selected.{SortKey, ListArguments, entries}
+use Rattle.hq_model.specs.Selected.{ListArguments, entries}
 use Rattle.hq_request_tree.specs.Fields.{Origin, from_table, along, FieldTrees, no_field, field, FieldTree, column, typename, no_queries, object, list, by_key, aggregate, introspect, PartTrees, no_part, part, PartTree, summary, nodes, part_typename}
 use Rattle.hq_request_tree.specs.Resolve.{origin_table}
 use Rattle.hq_translation.specs.Aggregates.{needed}
@@ -16,7 +16,7 @@ use Rattle.hq_translation.specs.Fine.{Has}
 use Rattle.hq_translation.specs.Lists.{once, list_sorts, list_used}
 use Rattle.hq_translation.specs.Looks.{name_of, is_used}
 use Rattle.hq_translation.specs.Predicates.{columns_in}
-use Rattle.hq_translation.specs.Sorts.{Sort, last_used, used_sorts}
+use Rattle.hq_translation.specs.Sorts.{Sort, last_used}
 use Rattle.hq_confine_rules.specs.Members.{has_mask, is_permitted}
 use Rattle.hq_confine_rules.specs.Origins.{table_place, column_place}
 

@@ -3,7 +3,7 @@ use Rattle.std.proofs.Common.{◌≡◌, ◌≢◌, ℕ, List, true, Option, Som
 use Rattle.std.specs.Prelude.{◌⊎◌, IfErr, IfSome}
 use Rattle.hq_copy_definition.specs.Copied.{Copied}
 use Rattle.hq_copy_definition.specs.Metadata.{copied_meta}
-use Rattle.hq_copy_definition.specs.Refusals.{filter_refusal, first_of, or_else}
+use Rattle.hq_copy_definition.specs.Refusals.{or_else}
 use Rattle.hq_copy_definition.specs.Sources.{Source, sources}
 use Rattle.hq_copy_definition.specs.Tables.{copied_tables}
 use Rattle.hq_copy_definition.specs.declared.refusal.CopyRefusal.{CopyRefusal}

@@ -1,5 +1,5 @@
 -- The rows of each table of a database.
-use Rattle.std.proofs.Common.{◌≡◌, ◌<◌, List, [], ◌∷◌, ◌++◌, length, true, Some, slice_get, ap, ◌∙◌, sym, subst, arith}
+use Rattle.std.proofs.Common.{◌≡◌, ◌<◌, List, [], ◌∷◌, ◌++◌, length, true, Some, slice_get, subst, arith}
 use Rattle.std.proofs.lemmas.Bool.{and_parts}
 use Rattle.hq_model.specs.Database.{Row, are_rows, is_database}
 use Rattle.hq_model.specs.declared.table.Table.{Table}

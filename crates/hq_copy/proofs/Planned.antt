@@ -1,5 +1,5 @@
 -- What is told without rows is sought cause by cause.
-use Rattle.std.proofs.Common.{◌≡◌, List, map, length, Option, Some, None, Result, Ok, Err, inl, inr, ⊎_elim, sym, ap, ap₂, ◌∙◌, subst}
+use Rattle.std.proofs.Common.{◌≡◌, List, length, Option, Some, None, Result, Ok, Err, inl, inr, ⊎_elim, sym, ap, ap₂, ◌∙◌, subst}
 use Rattle.std.specs.Prelude.{◌⊎◌, nat_lt}
 use Rattle.hq_copy_definition.specs.Metadata.{copied_meta}
 use Rattle.hq_copy_definition.specs.Refusals.{first_of, masked_key_refusal, or_else, own_name_refusal, refused_if, schema_name_refusal, width_refusal}

@@ -1,10 +1,9 @@
 -- No cause that is told is a failure to read rows.
 use Rattle.std.proofs.Common.{◌≡◌, ◌≢◌, ℕ, ◌+◌, List, [], ◌∷◌, ◌++◌, Bool, true, false, Option, Some, None, Result, Ok, Err}
 use Rattle.std.specs.List.{list_any}
-use Rattle.std.specs.Prelude.{bytes_eq, flat_map, length, nat_lt, slice_index_or}
-use Rattle.hq_base.specs.declared.value.Val.{Val}
+use Rattle.std.specs.Prelude.{bytes_eq, flat_map, slice_index_or}
 use Rattle.hq_copy_definition.specs.Metadata.{copied_meta}
-use Rattle.hq_copy_definition.specs.Refusals.{column_refusal, filter_refusal, first_of, is_kept_name, is_null_text, kept_name, like_type, masked_key_refusal, not_bound, or_else, own_name_refusal, refused_if, repeated_after, row_refusal, scalar_refusal, schema_name_refusal, unbound, width_refusal}
+use Rattle.hq_copy_definition.specs.Refusals.{column_refusal, filter_refusal, first_of, is_kept_name, is_null_text, kept_name, like_type, masked_key_refusal, or_else, own_name_refusal, refused_if, repeated_after, row_refusal, scalar_refusal, schema_name_refusal, unbound, width_refusal}
 use Rattle.hq_copy_definition.specs.Sources.{Source, kept_relationships, sources}
 use Rattle.hq_copy_definition.specs.Tables.{copied_tables}
 use Rattle.hq_copy_definition.specs.declared.refusal.CopyRefusal.{CopyRefusal}
@@ -12,7 +11,7 @@ use Rattle.hq_copy_definition.specs.declared.refusal.CopyRefusal.TheVariants as 
 use Rattle.hq_model.specs.Binding.{bound_permission}
 use Rattle.hq_model.specs.Catalog.{full_name}
 use Rattle.hq_model.specs.Database.{Row}
-use Rattle.hq_model.specs.Meta.{MetaTree, TrackedTree}
+use Rattle.hq_model.specs.Meta.{MetaTree}
 use Rattle.hq_model.specs.Permission.{Permission, named_columns}
 use Rattle.hq_model.specs.Schema.{Schema, column, rel, schema_of}
 use Rattle.hq_model.specs.SchemaNames.{all_types, roots_of, scalar_of}

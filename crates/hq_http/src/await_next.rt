@@ -1,8 +1,6 @@
-ghost use Rattle.std.specs.Prelude.{◌≡◌, ◌<◌, ◌≤◌, length};
-ghost use Rattle.std.specs.Io.KnownBytes.{IsAtEnd};
+ghost use Rattle.std.specs.Prelude.{◌≡◌, ◌<◌, ◌≤◌};
 ghost use Rattle.hq_io.specs.Causes.{Rose};
 ghost use Rattle.hq_http.specs.Waits.{FillsTo, Awaits};
-ghost use Rattle.hq_http_request.specs.Holds.{Holds, window};
 
 use crate::pending::PendingBytes;
 use hq_http_request::{Fault, Next, WholeRequest, next_request};

@@ -1,11 +1,10 @@
 -- The file of a table of a copy is read back, and it is the text of the part of that name.
-use Rattle.std.proofs.Common.{◌≡◌, ℕ, zero, suc, ◌+◌, List, [], ◌∷◌, ◌++◌, length, Bool, true, false, cond, not, ◌&&◌, ◌||◌, ◌==◌, Option, Some, None, refl, sym, ap, ap₂, ◌∙◌, slice_get}
+use Rattle.std.proofs.Common.{◌≡◌, ℕ, zero, suc, ◌+◌, List, [], ◌∷◌, ◌++◌, length, Bool, true, false, cond, ◌&&◌, ◌||◌, ◌==◌, Some, None, refl, sym, ap, ap₂, ◌∙◌, slice_get}
 use Rattle.std.proofs.lemmas.Bool.{and_parts, and_from, or_right, eqb-true, ltb-true, not_from_false, false≢true}
 use Rattle.std.proofs.lemmas.Slice.Eq.{bytes_eq-Decides}
 use Rattle.std.specs.List.{list_all, list_any}
 use Rattle.std.specs.Prelude.{bytes_eq, codes}
 use Rattle.csv.specs.Reading.{is_bom}
-use Rattle.hq_base.specs.Lists.{Each}
 use Rattle.hq_base.specs.declared.value.Val.{Val}
 use Rattle.hq_base.specs.declared.value.Val.TheVariants as val
 use Rattle.hq_copy.specs.Files.{file_of, files_of}

@@ -10,7 +10,7 @@ use Rattle.hq_live.specs.Runs.{Standing}
 use Rattle.hq_live_talk.specs.declared.end.TalkEnd.{TalkEnd}
 use Rattle.hq_serve.specs.declared.serving.ServeRefusal.{ServeRefusal}
 use Rattle.hq_live_serve.specs.Lines.{line_of, lines_from}
-use Rattle.hq_live_serve.specs.Talking.{ToldLink, Held, ends_of}
+use Rattle.hq_live_serve.specs.Talking.{ToldLink, ends_of}
 use Rattle.hq_serve.specs.Serving.{Wrote}
 use Rattle.hq_live_serve.specs.Serving.{HeldSoFar, HoldsNext, LinesBy, ServesTalks}
 use Rattle.hq_live_serve.proofs.Held.{ends_more, ends_length, holds_more, holds_none}

@@ -3,9 +3,8 @@ use Rattle.std.proofs.lemmas.Grind.{common_steps}
 use Rattle.std.proofs.lemmas.List.Elements.{filter-append}
 use Rattle.std.proofs.lemmas.Bool.{true≢false}
 use Rattle.std.proofs.Common.{arith, ◌≡◌, ◌++◌, ◌∷◌, [], ℕ, List, Bool, true, false, ◌==◌, not, filter, cond, refl, sym, ap, ◌∙◌, subst}
-use Rattle.hq_live.specs.Asking.{Due}
-use Rattle.hq_live.specs.Answers.{AreAnswers, kept, kept_all}
-use Rattle.hq_live.specs.Steps.{Steps, is_by, is_of, begun}
+use Rattle.hq_live.specs.Answers.{kept, kept_all}
+use Rattle.hq_live.specs.Steps.{is_by, is_of, begun}
 use Rattle.hq_live.specs.Runs.{Standing, Passes}
 use Rattle.hq_live.specs.declared.answer.Polled.{Polled}
 use Rattle.hq_live.specs.declared.answer.Polled.TheVariants.{Same, News, Missed}

@@ -1,7 +1,7 @@
 -- How a message is read (the protocol graphql-transport-ws, message types).
 use Rattle.std.specs.Prelude.{ℕ, List, [], ◌∷◌, length, Bool, not, ◌&&◌, nat_lt, bytes_eq, codes, Option, Some, None, is_some, option_and_then, Result, Ok, Err, if◌then◌else◌}
 use Rattle.std.specs.Option.{option_map}
-use Rattle.hq_base.specs.Json.{JsonTree, null, bool, int, str, arr, obj}
+use Rattle.hq_base.specs.Json.{JsonTree, null, obj}
 use Rattle.hq_base.specs.Look.{member_in, str_in, object_in, member_list}
 use Rattle.hq_base.specs.declared.body.JsonRefusal.{JsonRefusal}
 use Rattle.hq_session.specs.declared.header.Header.{Header}

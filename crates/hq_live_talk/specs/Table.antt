@@ -7,7 +7,7 @@ use Rattle.hq_model.specs.declared.session.Session.{Session}
 use Rattle.hq_session.specs.declared.header.Header.{Header}
 use Rattle.hq_session.specs.declared.hook.HookAnswer.{HookAnswer}
 use Rattle.hq_session.specs.declared.hook.HookAnswer.TheVariants as answer
-use Rattle.hq_live.specs.Asking.{RoseWithin, Moved}
+use Rattle.hq_live.specs.Asking.{RoseWithin}
 use Rattle.hq_live.specs.Steps.{is_of, is_repeated, IsTooMany}
 use Rattle.hq_live.specs.Runs.{Standing, Passes, Stays}
 use Rattle.hq_live.specs.declared.event.Subscription.{Subscription}

@@ -1,6 +1,5 @@
 -- A talk: the messages that were answered, what was sent for each, and how it ended.
 use Rattle.std.specs.Prelude.{◌≡◌, ◌≤◌, ◌∷◌, [], ℕ, List, map, filter, not, length, ⊤, Option, None, Some, Ok}
-use Rattle.hq_model.specs.declared.session.Session.{Session}
 use Rattle.hq_session.specs.declared.header.Header.{Header}
 use Rattle.hq_session.specs.declared.hook.HookAnswer.{HookAnswer}
 use Rattle.hq_live.specs.Steps.{is_by}

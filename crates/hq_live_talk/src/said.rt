@@ -1,8 +1,7 @@
 //! How a message is read.
-ghost use Rattle.std.specs.Prelude.{◌≡◌, IfOk, option_copied, codes};
+ghost use Rattle.std.specs.Prelude.{◌≡◌, IfOk, option_copied};
 ghost use Rattle.hq_base.specs.Body.{body_of};
 ghost use Rattle.hq_base.specs.Json.{json_view};
-ghost use Rattle.hq_base.specs.Look.{member_in};
 ghost use Rattle.hq_live_talk.specs.Reading.{text_in, kind_of, kind_in, is_request, init_said, subscribe_said, complete_said, said_in, said_of};
 
 use crate::init_headers::payload_headers;

@@ -4,7 +4,7 @@ use Rattle.std.specs.Prelude.{filter, IfSome}
 use Rattle.hq_base.specs.Lists.{Each}
 use Rattle.hq_base.proofs.Lists.{each_all}
 use Rattle.hq_base.specs.declared.value.Ty.{Ty}
-use Rattle.hq_schema.specs.Fixed.{fixed_place, fixed_kind, fixed_origin, boolean, int, string}
+use Rattle.hq_schema.specs.Fixed.{fixed_place, fixed_kind, fixed_origin, boolean, string}
 use Rattle.hq_schema.specs.Parts.{part_offset}
 use Rattle.hq_schema.specs.Schema.{TypeRefTree, base, non_null, TypeTree}
 use Rattle.hq_schema.specs.declared.fixed.Fixed.{Fixed}

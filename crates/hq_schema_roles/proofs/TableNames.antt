@@ -36,7 +36,7 @@ use Rattle.hq_schema.specs.declared.origin.ArgOrigin.TheVariants as arg_origin
 use Rattle.hq_schema.specs.declared.origin.FieldOrigin.TheVariants as field
 use Rattle.hq_schema.specs.declared.part.Part.TheVariants.{Rows, Aggregated}
 use Rattle.hq_schema_roles.proofs.Lists.{found_each}
-use Rattle.hq_schema_roles.proofs.Subs.{Sub, sub_nil, sub_keep, sub_same, sub_skip, sub_append, sub_front, sub_trans, sub_map, sub_filters, any_sub}
+use Rattle.hq_schema_roles.proofs.Subs.{Sub, sub_nil, sub_keep, sub_same, sub_skip, sub_append, sub_trans, sub_map, sub_filters, any_sub}
 
 or_right_true : (a b : Bool) → b ≡ true → (a || b) ≡ true
 or_right_true true b h = refl

@@ -3,7 +3,6 @@ ghost use Rattle.hq_base.specs.declared.reply.Reply.{Reply};
 ghost use Rattle.hq_session.specs.declared.header.Header.{Header};
 ghost use Rattle.std.specs.Io.KnownBytes.{Appends};
 ghost use Rattle.hq_io.specs.Causes.{HasCause, Rose, one_more};
-ghost use Rattle.hq_io.specs.Streams.{AppendsPrefix};
 ghost use Rattle.hq_serve.specs.Lines.{line_of};
 ghost use Rattle.hq_serve.specs.Serving.{Serves, ServesNext, Wrote};
 

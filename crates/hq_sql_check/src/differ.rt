@@ -1,5 +1,5 @@
 //! Names that all differ.
-ghost use Rattle.std.specs.Prelude.{◌≡◌, ◌++◌, ◌∷◌, IfOk, OnOk, map, bytes_eq};
+ghost use Rattle.std.specs.Prelude.{◌≡◌, IfOk, map, bytes_eq};
 ghost use Rattle.hq_base.specs.Lists.{all_differ};
 ghost use Rattle.hq_sql_tree.specs.Tree.{pairs_of};
 ghost use Rattle.hq_sql_tree.specs.View.{out_view, pair_view};

@@ -3,7 +3,7 @@ ghost use Rattle.std.specs.Prelude.{◌≡◌, ◌∷◌, [], IfOk, MatchOption,
 ghost use Rattle.std.specs.List.{list_any};
 ghost use Rattle.hq_sql_tree.specs.WellFormed as well;
 ghost use Rattle.hq_sql_tree.specs.WellFormed.{kind_of_type, table_names, is_table};
-ghost use Rattle.hq_sql_check.specs.Scopes.{kind_view, name_view, alias_view};
+ghost use Rattle.hq_sql_check.specs.Scopes.{kind_view, name_view};
 
 use crate::scope::{Kind, Name, only_name};
 use hq_base::{Memory, Txt, Ty};

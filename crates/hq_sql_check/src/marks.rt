@@ -1,5 +1,5 @@
 //! The tables that a statement takes rows from, each told once.
-ghost use Rattle.std.specs.Prelude.{◌≡◌, ◌<◌, ◌==◌, ℕ, false, true, length, IfOk, OnOk, List as Items, slice_index_or, slice_set};
+ghost use Rattle.std.specs.Prelude.{◌≡◌, ◌<◌, ◌==◌, ℕ, false, true, length, IfOk, List as Items, slice_index_or};
 ghost use Rattle.std.specs.List.{list_any};
 ghost use Rattle.hq_sql_tree.specs.Tree.{SelectTree};
 ghost use Rattle.hq_sql_tree.specs.View.{select_view};

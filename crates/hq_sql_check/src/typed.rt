@@ -1,7 +1,7 @@
 //! Selects whose parts have their types in scope, and the outputs that such a select has, in one walk.
 ghost use Rattle.std.specs.Prelude.{◌≡◌, ◌∷◌, ◌++◌, ◌&&◌, [], IfOk, OnOk, MatchOption, map, option_map, true, false};
 ghost use Rattle.hq_sql_tree.specs.Tree.{joins_of, preds_of};
-ghost use Rattle.hq_sql_tree.specs.View.{expr_view, out_view, select_view, from_view, join_view, pred_view, filter_view};
+ghost use Rattle.hq_sql_tree.specs.View.{expr_view, select_view, from_view, join_view, pred_view, filter_view};
 ghost use Rattle.hq_sql_tree.specs.WellFormed.{kind, is_folded, select_names, from_scope, joined_scope, is_typed, is_typed_from, are_typed_joins, is_typed_filter, is_typed_pred, are_typed_preds};
 ghost use Rattle.hq_sql_check.specs.Scopes.{name_view, alias_view, stacked, scope_view};
 

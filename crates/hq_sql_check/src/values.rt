@@ -1,8 +1,8 @@
 //! Expressions without aggregates: their kinds, and what is in scope.
 ghost use Rattle.std.specs.Prelude.{◌≡◌, IfOk, map, option_map};
-ghost use Rattle.hq_sql_tree.specs.Tree.{pairs_of, orders_of};
-ghost use Rattle.hq_sql_tree.specs.View.{agg_view, expr_view, pair_view, order_view};
-ghost use Rattle.hq_sql_tree.specs.WellFormed.{seen_kind, may_stand, can_cast, is_known, not_of_column, kind, agg_kind, is_text_kind, has_order, has_extremes, is_summed, taken_kind, takes_kind, compare_kinds, pair_names, is_value, is_member, are_values, is_collated, is_compared, are_keys, is_item};
+ghost use Rattle.hq_sql_tree.specs.Tree.{pairs_of};
+ghost use Rattle.hq_sql_tree.specs.View.{agg_view, expr_view, pair_view};
+ghost use Rattle.hq_sql_tree.specs.WellFormed.{seen_kind, may_stand, can_cast, is_known, not_of_column, kind, agg_kind, is_text_kind, has_order, has_extremes, is_summed, taken_kind, takes_kind, compare_kinds, is_value, is_member, are_values, is_collated, is_compared, is_item};
 ghost use Rattle.hq_sql_check.specs.Scopes.{kind_view, scope_view};
 
 use crate::differ::pairs_differ;

@@ -8,7 +8,7 @@ use Rattle.hq_base.specs.Lists.{put, sort}
 use Rattle.hq_model.specs.declared.table.Table.{Table}
 use Rattle.hq_sql_tree.specs.Meaning.{NamedRow, Scope, World, nothing, value, with_alias, members, order_cmp, outputs, or_null_row, rows_of, scopes_of, joined, kept, first_value, meaning, distinct_on}
 use Rattle.hq_sql_tree.specs.Tree as tree
-use Rattle.hq_sql_tree.specs.Tree.{ExprTree, PairTrees, OutTree, SelectTree, FromTree, JoinTrees, FilterTree, OrderTree}
+use Rattle.hq_sql_tree.specs.Tree.{ExprTree, PairTrees, OutTree, SelectTree, JoinTrees}
 use Rattle.hq_sql_tree.specs.WellFormed.{is_statement, is_statement_form, is_object_output, is_object, is_well_formed}
 use Rattle.hq_database.specs.Answered.{member_names, pair_names, object_names, lone_names, statement_names}
 

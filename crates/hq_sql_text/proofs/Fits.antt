@@ -5,7 +5,7 @@ use Rattle.hq_model.specs.Tests.{arity}
 use Rattle.hq_model.specs.declared.test.Arity.{Arity}
 use Rattle.hq_model.specs.declared.test.Arity.TheVariants.{Nothing, One, Many}
 use Rattle.hq_sql_tree.specs.Tree as tree
-use Rattle.hq_sql_tree.specs.Tree.{ExprTree, OrderTree, OutTree, SelectTree, FromTree, JoinTrees, FilterTree, PredTree, PredTrees}
+use Rattle.hq_sql_tree.specs.Tree.{ExprTree, SelectTree, FromTree, JoinTrees, FilterTree, PredTree, PredTrees}
 use Rattle.hq_sql_tree.specs.Form.{holds_agg, is_rows, reads_as_fold, is_count}
 use Rattle.hq_sql_expr.proofs.Listed.{AllGood}
 use Rattle.hq_sql_expr.proofs.Literals.{IsText}

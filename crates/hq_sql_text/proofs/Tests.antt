@@ -1,6 +1,6 @@
 -- Tests by their operators. Each fact is computed for each test; that of a comparison and that of LIKE are opened by clauses of their
 -- own, so that the last clause goes over all others.
-use Rattle.std.proofs.Common.{◌≡◌, ℕ, true, false, List, ◌++◌, Some, None, refl}
+use Rattle.std.proofs.Common.{◌≡◌, ℕ, false, List, ◌++◌, Some, None, refl}
 use Rattle.hq_model.specs.declared.test.Test.{Test}
 use Rattle.hq_model.specs.declared.test.Test.TheVariants as test
 use Rattle.hq_model.specs.declared.op.Op.TheVariants as op

@@ -9,7 +9,7 @@ use Rattle.hq_sql_tree.specs.declared.word.Word.TheVariants as word
 use Rattle.hq_sql_tree.specs.Form.{is_rows, reads_as_fold}
 use Rattle.hq_sql_tree.specs.Word.{all_tests, test_word}
 use Rattle.hq_sql_tree.specs.Tree as tree
-use Rattle.hq_sql_tree.specs.Tree.{ExprTree, OrderTree, OutTree, SelectTree, FromTree, JoinTree, FilterTree, PredTree, joins_of, preds_of}
+use Rattle.hq_sql_tree.specs.Tree.{ExprTree, OrderTree, SelectTree, FromTree, JoinTree, FilterTree, PredTree, joins_of, preds_of}
 use Rattle.hq_sql_expr.specs.Reading.{◌>>=◌, Reader, nothing, below, choose, first_of, after, first_word, all_many, name_at, number_at, cast_at, expr_at, argument_with, order_with, out_with, closed_exprs}
 
 -- a list behind a word, or none

@@ -1,5 +1,5 @@
 //! Reading the clauses of a select that hold no select. Each stands apart, so that its frame is not part of that of a select.
-ghost use Rattle.std.specs.Prelude.{◌≡◌, List, ℕ, map};
+ghost use Rattle.std.specs.Prelude.{map};
 ghost use Rattle.hq_sql_tree.specs.declared.word.Word.TheVariants as words;
 ghost use Rattle.hq_sql_tree.specs.View.{expr_view, order_view, out_view, from_view};
 ghost use Rattle.hq_sql_expr.specs.Reading.{Reads, all_many, expr_at, order_with, out_with};

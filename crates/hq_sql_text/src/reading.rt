@@ -1,10 +1,9 @@
 //! Reading selects and their conditions.
-ghost use Rattle.std.specs.Prelude.{◌≡◌, List, ℕ, map, option_map};
+ghost use Rattle.std.specs.Prelude.{map, option_map};
 ghost use Rattle.hq_sql_tree.specs.declared.word.Word.TheVariants as words;
-ghost use Rattle.hq_sql_tree.specs.Tree.{preds_of};
 ghost use Rattle.hq_sql_tree.specs.View.{order_view, select_view, from_view, join_view, pred_view, filter_of};
 ghost use Rattle.hq_sql_expr.specs.Reading.{Reads, below, all_many};
-ghost use Rattle.hq_sql_text.specs.Reading.{clause_with, aliased_with, from_with, join_with, select_with, select_at, whole, pred_with, inside_with, inside_at, negated_with, joined_with, others_with, exists_with, filter_with, end_with, EndTree};
+ghost use Rattle.hq_sql_text.specs.Reading.{clause_with, aliased_with, from_with, join_with, select_with, select_at, whole, pred_with, inside_with, inside_at, negated_with, joined_with, others_with, exists_with, filter_with, end_with};
 
 use crate::clauses::{distinct_clause, one_of, order_clause, out_list, table_of};
 use crate::parts::{End, add_first, add_last, boxed, boxed_from, counts_of, rows_of};

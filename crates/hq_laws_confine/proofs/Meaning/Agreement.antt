@@ -1,5 +1,5 @@
 -- Two databases that agree show alike what stands at the places of permitted rows.
-use Rattle.std.proofs.Common.{◌≡◌, ℕ, zero, suc, ◌+◌, ◌<◌, List, [], ◌∷◌, map, filter, length, Bool, true, false, cond, ◌||◌, ◌==◌, Option, Some, None, refl, sym, ap, ap₂, ◌∙◌, arith, Ordering}
+use Rattle.std.proofs.Common.{◌≡◌, ℕ, zero, suc, ◌+◌, ◌<◌, List, [], ◌∷◌, map, filter, length, Bool, true, false, cond, ◌||◌, ◌==◌, Option, Some, None, refl, sym, ap, ap₂, ◌∙◌, arith}
 use Rattle.std.specs.Prelude.{slice_index_or, unwrap_or}
 use Rattle.std.specs.List.{list_any}
 use Rattle.std.proofs.lemmas.Bool.{eqb-true}
@@ -12,12 +12,11 @@ use Rattle.hq_model.specs.Bexp.{always}
 use Rattle.hq_model.specs.Database.{Row}
 use Rattle.hq_model.specs.Grants.{Grants, grant, no_grant}
 use Rattle.hq_model.specs.Permission.{Mask, Permission}
-use Rattle.hq_model.specs.Permitted.{columns_cmp, by_key, permitted_under, permitted, mask_of, shown_under, shown}
+use Rattle.hq_model.specs.Permitted.{columns_cmp, by_key, permitted, mask_of, shown_under, shown}
 use Rattle.hq_model.specs.Schema.{Schema, table, no_table, numbered}
 use Rattle.hq_model.specs.Seen.{linked_by, row_cell, all_of}
 use Rattle.hq_model.specs.Truth.{keeps}
 use Rattle.hq_model.specs.View.{cut, cut_rows, view_table, view_links, Agree}
-use Rattle.hq_model.specs.declared.meta.Rel.{Rel}
 use Rattle.hq_confine_rules.specs.Members.{has_mask, is_permitted}
 use Rattle.hq_laws_confine.proofs.Meaning.Keys.{columns_total, Keyed, Full, same_order}
 use Rattle.hq_laws_confine.proofs.Meaning.Lists.{images_at, images_each}

@@ -1,13 +1,13 @@
 -- What is used of a statement's being well-formed: no join takes the alias of its scan, and the output of a fold has no column
 -- but inside aggregates.
-use Rattle.std.proofs.Common.{◌≡◌, ℕ, List, [], ◌∷◌, Bool, true, false, not, ◌&&◌, ◌||◌, bytes_eq, refl, sym, ap, ◌∙◌}
+use Rattle.std.proofs.Common.{◌≡◌, ℕ, List, [], ◌∷◌, Bool, true, false, not, ◌&&◌, ◌||◌, bytes_eq, refl, sym, ◌∙◌}
 use Rattle.std.specs.List.{list_any}
 use Rattle.std.proofs.lemmas.Slice.Eq.{bytes_eq-Decides}
 use Rattle.hq_base.specs.Lists.{all_differ}
 use Rattle.hq_model.specs.declared.table.Table.{Table}
 use Rattle.hq_sql_tree.specs.Tree as tree
 use Rattle.hq_sql_tree.specs.Tree.{ExprTree, PairTrees, SelectTree, FromTree, JoinTrees, FilterTree, PredTree, PredTrees}
-use Rattle.hq_sql_tree.specs.WellFormed.{Aliases, pair_names, is_folded, are_folded, are_parts, select_names, from_scope, joined_scope, is_typed, is_typed_from, are_typed_joins, is_typed_filter, is_typed_pred, are_typed_preds, is_typed_test, aliases_in, aliases_in_from, aliases_in_joins, aliases_in_filter, aliases_in_pred, aliases_in_preds}
+use Rattle.hq_sql_tree.specs.WellFormed.{Aliases, pair_names, is_folded, are_folded, are_parts, select_names, from_scope, joined_scope, is_typed, is_typed_from, are_typed_joins, is_typed_filter, is_typed_pred, are_typed_preds, aliases_in, aliases_in_from, aliases_in_joins, aliases_in_filter, aliases_in_pred, aliases_in_preds}
 use Rattle.hq_translation.proofs.Sound.{both, negated}
 use Rattle.hq_laws_confine.proofs.Meaning.Lists.{bool_same}
 

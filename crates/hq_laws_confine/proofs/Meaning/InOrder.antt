@@ -1,14 +1,13 @@
 -- A statement without faults gives the same where each table's rows are first put in the order of its key.
-use Rattle.std.proofs.Common.{◌≡◌, ℕ, pos, List, [], ◌∷◌, ◌++◌, map, filter, flat_map, Bool, true, false, cond, not, ◌&&◌, ◌||◌, ◌==◌, length, Option, Some, None, is_none, bytes_eq, refl, sym, ap, ap₂, ◌∙◌, subst, is_gt, Ordering, Less, Equal, Greater}
+use Rattle.std.proofs.Common.{◌≡◌, ℕ, pos, List, [], ◌∷◌, ◌++◌, map, filter, flat_map, Bool, true, false, cond, not, ◌&&◌, ◌||◌, ◌==◌, length, Option, Some, None, is_none, refl, sym, ap, ap₂, ◌∙◌, subst, is_gt, Ordering}
 use Rattle.std.specs.Cmp.{IsTotalOrder}
-use Rattle.std.specs.List.{list_all, list_any}
-use Rattle.std.specs.Ordering.{is_eq, ordering_then}
+use Rattle.std.specs.List.{list_all}
+use Rattle.std.specs.Ordering.{is_eq}
 use Rattle.std.proofs.lemmas.Bool.{and_parts}
 use Rattle.std.proofs.lemmas.Cmp.{on_total, then_total}
 use Rattle.std.proofs.lemmas.List.Folds.{flat_map-map}
-use Rattle.std.proofs.lemmas.Slice.Eq.{bytes_eq-Decides}
 use Rattle.hq_base.specs.Aggregates.{counted, aggregated}
-use Rattle.hq_base.specs.Cells.{CellTree, int, json, json_of, key_cmp}
+use Rattle.hq_base.specs.Cells.{int, json, json_of, key_cmp}
 use Rattle.hq_base.specs.Json as tree_of
 use Rattle.hq_base.specs.Json.{member}
 use Rattle.hq_base.specs.Lists.{Each, put, sort}
@@ -22,14 +21,14 @@ use Rattle.hq_model.specs.Schema.{Schema, table}
 use Rattle.hq_model.specs.Seen.{row_cell, table_rows}
 use Rattle.hq_model.specs.declared.table.Table.{Table}
 use Rattle.hq_sql_tree.specs.Tree as tree
-use Rattle.hq_sql_tree.specs.Tree.{ExprTree, PairTrees, AggTree, OrderTree, OrderTrees, OutTree, SelectTree, FromTree, JoinTrees, FilterTree, PredTree, PredTrees, orders_of}
-use Rattle.hq_sql_tree.specs.Meaning.{NamedRow, cell_named, Scope, with_alias, World, named_row, rows_named, value, members, taken, orders_cmp, order_cmp, distinct_on, limited, offset_by, outputs, or_null_row, has_rows, rows_of, scopes_of, joined, kept, truth_at, all_true, any_true}
+use Rattle.hq_sql_tree.specs.Tree.{ExprTree, PairTrees, OrderTree, OrderTrees, OutTree, SelectTree, FromTree, JoinTrees, FilterTree, PredTree, PredTrees, orders_of}
+use Rattle.hq_sql_tree.specs.Meaning.{NamedRow, cell_named, Scope, with_alias, World, named_row, rows_named, value, members, orders_cmp, order_cmp, distinct_on, limited, offset_by, outputs, or_null_row, has_rows, rows_of, scopes_of, joined, kept, truth_at, all_true, any_true}
 use Rattle.hq_translation.proofs.Names.{same_text}
 use Rattle.hq_confine_rules.specs.Conjuncts.{opened, all_opened, conjuncts}
 use Rattle.hq_confine_rules.specs.Faults.{outputs_of, joined_shapes, is_exempt, is_unordered, scan_faults, select_faults, joins_faults, where_faults, conjunct_faults, conjuncts_faults, pred_faults, preds_faults}
 use Rattle.hq_confine_rules.specs.Members.{filter_conjuncts, is_one_of, Equation, equation, is_linking, mask_conjuncts, is_mask_join}
 use Rattle.hq_confine_rules.specs.Origins.{Origin, made, of, Shape, scan, outputs as shows, Shapes, shape_at, column_of, column_place, behind, output_named, origin_in, origin, table_place}
-use Rattle.hq_confine_rules.specs.Uses.{Fault, is_run, has_run, shows_order, show_order, agg_shows_order, expr_faults, exprs_faults, outs_faults, orders_faults}
+use Rattle.hq_confine_rules.specs.Uses.{Fault, is_run, has_run, shows_order, show_order, expr_faults, exprs_faults, outs_faults, orders_faults}
 use Rattle.hq_confine_rules.proofs.Alike.{is_so, kept_conjuncts, nil_is, none_is}
 use Rattle.hq_confine_rules.proofs.Clean.{left_none, right_none}
 use Rattle.hq_laws_confine.proofs.Meaning.Formed.{Fresh, Formed, FormedJoins, FormedFilter, FormedPred, FormedPreds}

@@ -1,5 +1,5 @@
 -- The keys of a table's rows differ and hold no NULL, so rows in key order compare by their places alone.
-use Rattle.std.proofs.Common.{◌≡◌, ℕ, zero, suc, ◌<◌, ◌≤◌, List, [], ◌∷◌, length, map, filter, Bool, true, false, cond, not, ◌&&◌, ◌||◌, Some, None, refl, sym, ap, ap₂, ◌∙◌, subst, arith, Ordering, Less, Equal, Greater}
+use Rattle.std.proofs.Common.{◌≡◌, ℕ, zero, suc, List, [], ◌∷◌, length, map, Bool, true, false, not, ◌||◌, refl, sym, ap, ◌∙◌, arith, Ordering, Less, Equal, Greater}
 use Rattle.std.specs.Prelude.{slice_index_or, slice_get}
 use Rattle.std.specs.List.{list_all, list_any}
 use Rattle.std.specs.Cmp.{IsTotalOrder}
@@ -7,7 +7,7 @@ use Rattle.std.specs.Ordering.{nat_cmp, is_eq, ordering_reverse, ordering_then}
 use Rattle.std.proofs.lemmas.Cmp.{on_total, then_total}
 use Rattle.hq_base.specs.Aggregates.{is_counted}
 use Rattle.hq_base.specs.Cells.{CellTree, null, int, text, bool, json, cell_of, cell_cmp, key_cmp, null_rank, same_cell}
-use Rattle.hq_base.specs.Lists.{Each, sort, all_differ}
+use Rattle.hq_base.specs.Lists.{Each, all_differ}
 use Rattle.hq_base.proofs.Orders.{key_cmp_total}
 use Rattle.hq_base.specs.declared.value.Val.{Val}
 use Rattle.hq_base.specs.declared.value.Val.TheVariants as val

@@ -1,5 +1,5 @@
 -- A whole link is true of rows exactly where they are linked.
-use Rattle.std.proofs.Common.{◌≡◌, ℕ, ◌<◌, List, [], ◌∷◌, length, Bool, true, false, not, ◌&&◌, ◌||◌, ◌==◌, Option, Some, None, bytes_eq, refl, sym, ap, ap₂, ◌∙◌, subst, eqb-true}
+use Rattle.std.proofs.Common.{◌≡◌, ℕ, List, [], ◌∷◌, Bool, true, false, ◌&&◌, ◌||◌, Option, Some, None, bytes_eq, refl, sym, ap, ap₂, ◌∙◌}
 use Rattle.std.specs.List.{list_all, list_any}
 use Rattle.std.proofs.lemmas.Bool.{and_parts}
 use Rattle.std.proofs.lemmas.Slice.Eq.{bytes_eq-Decides}
@@ -12,7 +12,7 @@ use Rattle.hq_model.specs.declared.op.Op.TheVariants.{Eq}
 use Rattle.hq_model.specs.declared.test.Test.TheVariants.{Compare}
 use Rattle.hq_sql_tree.specs.Tree as tree
 use Rattle.hq_sql_tree.specs.Tree.{ExprTree, PredTree}
-use Rattle.hq_sql_tree.specs.Meaning.{NamedRow, cell_named, Scope, World, nothing, named_row, truth_at}
+use Rattle.hq_sql_tree.specs.Meaning.{cell_named, Scope, World, nothing, named_row, truth_at}
 use Rattle.hq_translation.specs.Looks.{name_of}
 use Rattle.hq_translation.specs.Names.{table_alias}
 use Rattle.hq_translation.proofs.Names.{Differ, Narrow, with_alias_same, shows_row}

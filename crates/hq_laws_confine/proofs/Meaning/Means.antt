@@ -1,10 +1,9 @@
 -- A statement without faults gives alike over two databases in key order that agree.
-use Rattle.std.proofs.Common.{◌≡◌, ℕ, ◌+◌, ◌<◌, ◌≤◌, ◌^◌, List, [], ◌∷◌, ◌++◌, map, filter, flat_map, length, Bool, true, false, cond, not, ◌&&◌, ◌||◌, ◌==◌, Option, Some, None, is_none, bytes_eq, codes, refl, sym, ap, ap₂, ◌∙◌, subst, eqb-true, Ordering, Equal}
+use Rattle.std.proofs.Common.{◌≡◌, ℕ, ◌+◌, ◌<◌, ◌≤◌, ◌^◌, List, [], ◌∷◌, ◌++◌, map, filter, flat_map, length, Bool, true, false, cond, not, ◌&&◌, ◌||◌, ◌==◌, Option, Some, None, bytes_eq, codes, refl, sym, ap, ap₂, ◌∙◌, subst, eqb-true}
 use Rattle.std.specs.Prelude.{slice_index_or, is_some}
 use Rattle.std.specs.List.{list_all, list_any}
 use Rattle.std.proofs.lemmas.Bool.{and_parts}
 use Rattle.std.proofs.lemmas.List.Folds.{flat_map-map}
-use Rattle.std.proofs.lemmas.Slice.Eq.{bytes_eq-Decides}
 use Rattle.hq_base.specs.Cells.{CellTree, null, bool}
 use Rattle.hq_base.specs.Lists.{Each, Zip, sort}
 use Rattle.hq_base.proofs.Lists.{each_weaken, each_passes}
@@ -22,28 +21,25 @@ use Rattle.hq_model.specs.declared.meta.Rel.{Rel}
 use Rattle.hq_model.specs.declared.table.Table.{Table}
 use Rattle.hq_model.specs.declared.test.Test.{Test}
 use Rattle.hq_sql_tree.specs.Tree as tree
-use Rattle.hq_sql_tree.specs.Tree.{ExprTree, OrderTree, OutTree, SelectTree, FromTree, JoinTrees, FilterTree, PredTree, PredTrees, orders_of}
-use Rattle.hq_sql_tree.specs.Form.{is_one, is_no_join}
-use Rattle.hq_sql_tree.specs.Meaning.{NamedRow, cell_named, Scope, with_alias, World, named_row, rows_named, value, order_cmp, distinct_on, limited, offset_by, outputs, or_null_row, has_rows, rows_of, scopes_of, joined, kept, truth_at, all_true, any_true}
+use Rattle.hq_sql_tree.specs.Tree.{ExprTree, OrderTree, OutTree, SelectTree, JoinTrees, FilterTree, PredTree, PredTrees, orders_of}
+use Rattle.hq_sql_tree.specs.Meaning.{NamedRow, cell_named, Scope, with_alias, World, named_row, rows_named, value, order_cmp, distinct_on, limited, offset_by, outputs, or_null_row, has_rows, rows_of, joined, kept, truth_at, all_true, any_true}
 use Rattle.hq_translation.specs.Masks.{filter_numbers}
 use Rattle.hq_translation.specs.Predicates.{own_numbers}
 use Rattle.hq_translation.specs.GrantedTables.{rights_of}
 use Rattle.hq_translation.proofs.Names.{same_text, Narrow}
-use Rattle.hq_translation.proofs.Sound.{negated}
 use Rattle.hq_confine_rules.specs.Conjuncts.{opened, all_opened, conjuncts}
-use Rattle.hq_confine_rules.specs.Faults.{outputs_of, from_shapes, joined_shapes, is_exempt, is_unordered, scan_faults, select_faults, from_faults, joins_faults, where_faults, conjunct_faults, conjuncts_faults, pred_faults, preds_faults}
-use Rattle.hq_confine_rules.specs.Members.{filter_conjuncts, is_one_of, stand_among, Equation, equation, is_equation_of, is_for_pair, is_whole_link, links_shape, is_linking, mask_conjuncts, has_mask, is_permitted, shows_masked, shows_one, shows_only, is_mask_join}
-use Rattle.hq_confine_rules.specs.Origins.{Origin, made, of, Shape, scan, outputs as shows, Shapes, shape_at, origin_at, origin_in, column_of, column_place, behind, output_named, output_origins, table_place}
-use Rattle.hq_confine_rules.specs.Renamed.{alias_of}
+use Rattle.hq_confine_rules.specs.Faults.{outputs_of, joined_shapes, is_exempt, is_unordered, scan_faults, select_faults, joins_faults, where_faults, conjunct_faults, conjuncts_faults, pred_faults, preds_faults}
+use Rattle.hq_confine_rules.specs.Members.{filter_conjuncts, is_one_of, stand_among, Equation, equation, is_equation_of, is_for_pair, is_whole_link, links_shape, is_linking, is_mask_join}
+use Rattle.hq_confine_rules.specs.Origins.{Origin, Shape, scan, outputs as shows, Shapes, shape_at, output_origins, table_place}
 use Rattle.hq_confine_rules.specs.Uses.{Fault, needs, has_run, shows_order, expr_faults, exprs_faults, outs_faults, orders_faults}
-use Rattle.hq_confine_rules.proofs.Alike.{is_so, kept_conjuncts, nil_is, none_is, no_join_is}
+use Rattle.hq_confine_rules.proofs.Alike.{is_so, kept_conjuncts}
 use Rattle.hq_confine_rules.proofs.Clean.{left_none, right_none}
-use Rattle.hq_laws_confine.proofs.Meaning.Agreement.{row_at, Alike, each_permitted}
-use Rattle.hq_laws_confine.proofs.Meaning.Formed.{Fresh, Formed, FormedFrom, FormedJoins, FormedFilter, FormedPred, FormedPreds}
+use Rattle.hq_laws_confine.proofs.Meaning.Agreement.{Alike, each_permitted}
+use Rattle.hq_laws_confine.proofs.Meaning.Formed.{Fresh, Formed, FormedJoins, FormedFilter, FormedPred, FormedPreds}
 use Rattle.hq_laws_confine.proofs.Meaning.Links.{linked_so, so_linked, row_names}
 use Rattle.hq_laws_confine.proofs.Meaning.Lists.{bool_same, not_true, each_append, each_at, all_each, each_all_true, found_each, each_two, each_map, each_flat_map, only_some, zip_flat, zip_limited, zip_offset}
 use Rattle.hq_laws_confine.proofs.Meaning.Masks.{MaskForm, mask_form}
-use Rattle.hq_laws_confine.proofs.Meaning.Related.{Path, needed, RowRel, RowOk, ScopeOk, ScopeRel, bound_ok, null_ok, scans_ok, plain_alike, values_alike, outs_alike, distinct_alike, order_same, orders_alike, fold_alike}
+use Rattle.hq_laws_confine.proofs.Meaning.Related.{needed, RowRel, RowOk, ScopeOk, bound_ok, null_ok, scans_ok, plain_alike, values_alike, outs_alike, distinct_alike, order_same, orders_alike, fold_alike}
 use Rattle.hq_laws_confine.proofs.Meaning.Tables.{cell_in, cell_at_place, key_world}
 use Rattle.hq_laws_confine.proofs.Meaning.Written.{Base, kept_one, all_keep, exactly}
 

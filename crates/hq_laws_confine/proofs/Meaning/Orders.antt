@@ -1,5 +1,5 @@
 -- Items that differ by an order: they may be put in either order, and a sorted list of them rises.
-use Rattle.std.proofs.Common.{◌≡◌, ℕ, List, [], ◌∷◌, ◌++◌, filter, flat_map, Bool, true, false, cond, refl, sym, ap, ◌∙◌, is_gt, Ordering, Less, Equal, Greater}
+use Rattle.std.proofs.Common.{◌≡◌, List, [], ◌∷◌, ◌++◌, filter, flat_map, Bool, true, false, cond, refl, sym, ap, ◌∙◌, is_gt, Ordering, Less, Equal, Greater}
 use Rattle.std.specs.Cmp.{IsTotalOrder}
 use Rattle.std.specs.Ordering.{is_eq, ordering_reverse, ordering_then}
 use Rattle.hq_base.specs.Lists.{Each, put, sort, Before, Ascends}

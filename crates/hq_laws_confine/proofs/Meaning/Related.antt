@@ -1,14 +1,14 @@
 -- Two databases that agree: how what is in scope over the one is related to what is in scope over the other.
-use Rattle.std.proofs.Common.{◌≡◌, ℕ, zero, suc, pos, ◌<◌, List, [], ◌∷◌, ◌++◌, map, length, Bool, true, false, cond, not, ◌&&◌, ◌==◌, Option, Some, None, bytes_eq, refl, sym, ap, ap₂, ◌∙◌, subst, Ordering}
+use Rattle.std.proofs.Common.{◌≡◌, ℕ, zero, suc, pos, ◌<◌, List, [], ◌∷◌, ◌++◌, map, length, Bool, true, false, cond, not, ◌&&◌, ◌==◌, Option, Some, None, bytes_eq, refl, sym, ap, ap₂, ◌∙◌, subst}
 use Rattle.std.specs.Prelude.{slice_index_or}
 use Rattle.std.specs.Ordering.{ordering_then}
-use Rattle.std.proofs.lemmas.Bool.{and_parts, ne_eqb}
+use Rattle.std.proofs.lemmas.Bool.{and_parts}
 use Rattle.hq_base.specs.Aggregates.{counted, aggregated}
 use Rattle.hq_base.specs.Cells.{CellTree, null, int, json, json_of, key_cmp, same_cell}
 use Rattle.hq_base.specs.Json as tree_of
 use Rattle.hq_base.specs.Json.{member, elements_of}
-use Rattle.hq_base.specs.Lists.{Zip, Each, sort}
-use Rattle.hq_base.proofs.Zips.{zip_weaken, zip_images, zip_map, zip_length, zip_sort, zip_firsts}
+use Rattle.hq_base.specs.Lists.{Zip, sort}
+use Rattle.hq_base.proofs.Zips.{zip_images, zip_map, zip_length, zip_sort, zip_firsts}
 use Rattle.hq_model.specs.Database.{Row}
 use Rattle.hq_model.specs.Grants.{Grants, grant}
 use Rattle.hq_model.specs.Permitted.{columns_cmp, permitted}
@@ -20,7 +20,7 @@ use Rattle.hq_sql_tree.specs.Meaning.{NamedRow, cell_named, Scope, with_alias, n
 use Rattle.hq_translation.proofs.Sound.{negated}
 use Rattle.hq_confine_rules.specs.Members.{has_mask, is_permitted}
 use Rattle.hq_confine_rules.specs.Origins.{Origin, made, of, Shape, scan, outputs as shows, Shapes, shape_at, column_of, column_place, behind, output_named, origin_in, origin_at, origin, output_origins, is_of}
-use Rattle.hq_confine_rules.specs.Uses.{Fault, needs, is_plain, may_pass, rule_of, is_key_sort, is_run, run_from, less_one, expr_faults, pairs_faults, agg_faults, orders_faults, exprs_faults, out_faults, outs_faults}
+use Rattle.hq_confine_rules.specs.Uses.{Fault, needs, is_plain, rule_of, is_key_sort, is_run, run_from, less_one, expr_faults, pairs_faults, agg_faults, orders_faults, exprs_faults, out_faults, outs_faults}
 use Rattle.hq_confine_rules.proofs.Clean.{left_none, right_none}
 use Rattle.hq_confine_rules.proofs.Runs.{of_is, suc_not}
 use Rattle.hq_laws_confine.proofs.Meaning.Agreement.{row_at, Alike}

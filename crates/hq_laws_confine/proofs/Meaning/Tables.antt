@@ -1,20 +1,19 @@
 -- Tables by their places: a table's rows stand under its name, and each column's cell under its own; the rows in key order.
-use Rattle.std.proofs.Common.{◌≡◌, ℕ, zero, suc, ◌+◌, ◌<◌, ◌≤◌, List, [], ◌∷◌, length, map, Bool, true, false, cond, not, ◌&&◌, Option, Some, None, bytes_eq, refl, sym, ap, ap₂, subst, ◌∙◌, arith}
-use Rattle.std.specs.Prelude.{slice_index_or, nat_lt, unwrap_or, option_map}
+use Rattle.std.proofs.Common.{◌≡◌, ℕ, zero, suc, ◌+◌, ◌≤◌, List, [], ◌∷◌, length, map, Bool, true, false, cond, not, ◌&&◌, Option, Some, None, bytes_eq, refl, sym, ap, ◌∙◌, arith}
+use Rattle.std.specs.Prelude.{nat_lt, unwrap_or, option_map}
 use Rattle.std.specs.List.{position, prefix_len}
 use Rattle.std.proofs.lemmas.Bool.{lt-ltb, ltb-true, ltb-false}
 use Rattle.std.proofs.lemmas.List.Sums.{prefix_len-le-length}
 use Rattle.hq_base.specs.Cells.{CellTree, null, cell_of}
 use Rattle.hq_base.specs.Lists.{sort}
-use Rattle.hq_model.specs.Catalog.{is_catalog}
 use Rattle.hq_model.specs.Database.{Row, is_database, are_rows}
 use Rattle.hq_model.specs.Meta.{MetaTree}
 use Rattle.hq_model.specs.Permitted.{columns_cmp, by_key}
-use Rattle.hq_model.specs.Schema.{Schema, SchemaTable, schema_table, numbered, schema_of, table, no_table}
+use Rattle.hq_model.specs.Schema.{Schema, schema_table, numbered, schema_of, table}
 use Rattle.hq_model.specs.Seen.{row_cell, table_rows}
 use Rattle.hq_model.specs.declared.table.Column.{Column}
 use Rattle.hq_model.specs.declared.table.Table.{Table}
-use Rattle.hq_sql_tree.specs.Meaning.{World, NamedRow, cell_named, named_row, first_rows, other_rows, rows_named}
+use Rattle.hq_sql_tree.specs.Meaning.{World, cell_named, named_row, rows_named}
 use Rattle.hq_translation.proofs.Sound.{both}
 use Rattle.hq_confine_rules.specs.Origins.{is_named, table_place, column_place}
 

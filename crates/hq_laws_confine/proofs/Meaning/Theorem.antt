@@ -1,5 +1,5 @@
 -- A statement without faults means the same over all databases that agree.
-use Rattle.std.proofs.Common.{◌≡◌, ℕ, ◌≤◌, List, [], ◌∷◌, length, map, Bool, true, false, ◌&&◌, Option, Some, None, bytes_eq, codes, cond, refl, sym, ap, ◌∙◌, subst, arith}
+use Rattle.std.proofs.Common.{◌≡◌, ℕ, ◌≤◌, List, [], ◌∷◌, length, map, Bool, true, false, ◌&&◌, None, bytes_eq, codes, cond, refl, sym, ap, ◌∙◌, subst}
 use Rattle.std.specs.Prelude.{nat_le}
 use Rattle.hq_base.specs.Cells.{json_of}
 use Rattle.hq_base.specs.Lists.{Zip, all_differ}
@@ -11,12 +11,12 @@ use Rattle.hq_model.specs.Schema.{Schema, schema_of, table}
 use Rattle.hq_model.specs.declared.table.Table.{Table}
 use Rattle.hq_sql_tree.specs.Form.{is_select, select_depth, select_fits}
 use Rattle.hq_sql_tree.specs.Tree as tree
-use Rattle.hq_sql_tree.specs.Tree.{ExprTree, OutTree, OrderTree, SelectTree, FromTree, FilterTree}
-use Rattle.hq_sql_tree.specs.Meaning.{NamedRow, cell_named, named_row, Scope, nothing, rows_of, first_value}
+use Rattle.hq_sql_tree.specs.Tree.{ExprTree, OutTree, SelectTree}
+use Rattle.hq_sql_tree.specs.Meaning.{NamedRow, cell_named, named_row, nothing, rows_of, first_value}
 use Rattle.hq_sql_tree.specs.WellFormed.{is_typed, is_well_typed, is_well_formed, is_object, is_object_output, is_statement_form, aliases_in}
 use Rattle.hq_translation.proofs.Sound.{both, sound_of}
 use Rattle.hq_confine_rules.specs.Faults.{outputs_of}
-use Rattle.hq_confine_rules.specs.Origins.{Origin, made, Shape, outputs as shows, Shapes, output_named, origin, output_origins, table_place}
+use Rattle.hq_confine_rules.specs.Origins.{Origin, made, outputs as shows, Shapes, output_named, origin, output_origins, table_place}
 use Rattle.hq_laws_confine.specs.Meaning.Laws.{MeansTheSame}
 use Rattle.hq_laws_confine.proofs.Meaning.Agreement.{Alike, alike_of}
 use Rattle.hq_laws_confine.proofs.Meaning.Formed.{Formed, formed_of}
@@ -24,7 +24,7 @@ use Rattle.hq_laws_confine.proofs.Meaning.InOrder.{rows_same}
 use Rattle.hq_laws_confine.proofs.Meaning.Keys.{keyed_of}
 use Rattle.hq_laws_confine.proofs.Meaning.Means.{rows_alike}
 use Rattle.hq_laws_confine.proofs.Meaning.Related.{CellRel, RowOk}
-use Rattle.hq_laws_confine.proofs.Meaning.Tables.{rows_at, keyed, keyed_rows, keyed_length, within_catalog, file_world, key_world}
+use Rattle.hq_laws_confine.proofs.Meaning.Tables.{rows_at, keyed, keyed_rows, keyed_length, within_catalog, key_world}
 use Rattle.hq_laws_confine.proofs.Meaning.Written.{Base}
 
 base_of : (tables : List Table) (meta : MetaTree) (d : List (List Row)) → is_catalog tables ≡ true → is_database tables d ≡ true → Base (schema_of tables meta) tables d

@@ -1,13 +1,11 @@
 -- Conjuncts of a filter or a mask, in a database and in the same one in key order.
-use Rattle.std.proofs.Common.{◌≡◌, ℕ, ◌+◌, ◌<◌, ◌≤◌, ◌^◌, List, [], ◌∷◌, map, Bool, true, false, ◌&&◌, ◌||◌, Option, bytes_eq, refl, sym, ap, ap₂, ◌∙◌, arith}
+use Rattle.std.proofs.Common.{◌≡◌, ℕ, ◌+◌, ◌≤◌, ◌^◌, List, [], ◌∷◌, map, Bool, true, false, ◌&&◌, ◌||◌, bytes_eq, refl, sym, ap, ap₂, ◌∙◌, arith}
 use Rattle.std.specs.List.{list_all, list_any}
 use Rattle.std.proofs.lemmas.Bool.{and_parts}
-use Rattle.std.proofs.lemmas.Slice.Eq.{bytes_eq-Decides}
 use Rattle.hq_base.proofs.Lists.{any_map_of}
 use Rattle.hq_base.proofs.Sorts.{sort_any}
 use Rattle.hq_model.specs.Bexp.{BexpTree}
 use Rattle.hq_model.specs.Database.{Row}
-use Rattle.hq_model.specs.Grants.{Grants, grant}
 use Rattle.hq_model.specs.Logic.{is_true, truth_of, not3, and3, or3}
 use Rattle.hq_model.specs.Permitted.{columns_cmp, by_key}
 use Rattle.hq_model.specs.Schema.{Schema, table}
@@ -15,7 +13,7 @@ use Rattle.hq_model.specs.Seen.{all_of, table_rows}
 use Rattle.hq_model.specs.Truth.{keeps}
 use Rattle.hq_model.specs.declared.table.Table.{Table}
 use Rattle.hq_sql_tree.specs.Tree as tree
-use Rattle.hq_sql_tree.specs.Tree.{ExprTree, OrderTree, OutTree, SelectTree, FromTree, JoinTrees, FilterTree, PredTree, PredTrees}
+use Rattle.hq_sql_tree.specs.Tree.{SelectTree, FilterTree, PredTree, PredTrees}
 use Rattle.hq_sql_tree.specs.Meaning.{NamedRow, Scope, with_alias, nothing, World, named_row, rows_named, has_rows, rows_of, kept, truth_at, all_true, any_true}
 use Rattle.hq_translation.specs.Names.{table_alias}
 use Rattle.hq_translation.specs.Predicates.{own_numbers, own_predicate}
@@ -26,9 +24,9 @@ use Rattle.hq_confine_rules.specs.Conjuncts.{opened, conjuncts}
 use Rattle.hq_confine_rules.specs.Members.{is_written, is_one_of, stand_among}
 use Rattle.hq_confine_rules.specs.Origins.{table_place}
 use Rattle.hq_confine_rules.specs.Renamed.{Renaming, is_bare, same_table, beside, are_alike_outs, is_alike, are_alike, is_alike_select, is_alike_filter}
-use Rattle.hq_confine_rules.proofs.Alike.{Related, truth_alike, is_so, true_opened, kept_conjuncts, bare_rows, bare_select, any_alike}
+use Rattle.hq_confine_rules.proofs.Alike.{truth_alike, is_so, true_opened, kept_conjuncts, bare_rows, bare_select, any_alike}
 use Rattle.hq_confine_rules.proofs.Permitted.{related}
-use Rattle.hq_laws_confine.proofs.Meaning.Lists.{bool_same, all_each, each_all_true, found_each}
+use Rattle.hq_laws_confine.proofs.Meaning.Lists.{bool_same}
 use Rattle.hq_laws_confine.proofs.Meaning.Tables.{keyed, file_world, key_world}
 
 -- what is used of a database of a catalog

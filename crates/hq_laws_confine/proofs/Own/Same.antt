@@ -12,7 +12,7 @@ use Rattle.hq_request_tree.specs.Touched.{condition_tables, conditions_tables, p
 use Rattle.hq_request_tree.specs.declared.aggregate.KeyedAggField.{KeyedAggField}
 use Rattle.hq_sql_tree.specs.declared.expr.ColumnForm.TheVariants.{Plain}
 use Rattle.hq_sql_tree.specs.Tree as tree
-use Rattle.hq_sql_tree.specs.Tree.{PredTree, OrderTree, OutTree, SelectTree, JoinTree, PairTree, joins_of, orders_of, pairs_of}
+use Rattle.hq_sql_tree.specs.Tree.{PredTree, OutTree, JoinTree, PairTree, joins_of, orders_of, pairs_of}
 use Rattle.hq_translation.specs.Aggregates.{needed, needed_outputs, some_aggregate, summary_used, summary_pairs, summary_numbers, plain_select, summary_select}
 use Rattle.hq_translation.specs.Conditions.{joined_by_and, joined_by_or, with_member, where_of}
 use Rattle.hq_translation.specs.Fields.{fields_used, key_used, origin_tie, key_members, fields_numbers, field_numbers, parts_numbers, part_numbers, field_value, fields_values, part_value, parts_values, parts_select, kids_from, list_join, fields_joins, field_joins, parts_joins, part_joins}

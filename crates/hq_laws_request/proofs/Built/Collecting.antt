@@ -24,7 +24,7 @@ use Rattle.hq_gql_nodes.specs.Nodes.{NodeTree, condition_node, arguments_nodes, 
 use Rattle.hq_gql_nodes.specs.Reach.{has}
 use Rattle.hq_gql_nodes.specs.declared.node.Location.TheVariants as location
 use Rattle.hq_overlap_sets.specs.Pairs.{fields_in, spreads_in, Within, here, spread as along, Reached, in_one, below, SameLabel, Violates}
-use Rattle.hq_overlap_sets.specs.Sets.{SetTree, seen_field, field_count_of, field_count, own_fields_of, own_fields, own_spreads_of, own_spreads, set_of, inner_sets_of, inner_sets, parent_of, selections_of_definition, document_sets}
+use Rattle.hq_overlap_sets.specs.Sets.{SetTree, seen_field, field_count_of, field_count, own_fields_of, own_fields, own_spreads_of, own_spreads, set_of, inner_sets_of, inner_sets, document_sets}
 use Rattle.hq_overlap_sets.specs.Sets as overlap
 use Rattle.hq_overlap_sets.specs.Shapes.{shape_of}
 use Rattle.hq_rules_doc.specs.NodeRules.{are_other, type_of_condition, type_of_fragment, condition_of}

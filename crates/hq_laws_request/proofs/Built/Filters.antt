@@ -37,7 +37,7 @@ use Rattle.hq_schema_roles.specs.Access.{Access, access_of}
 use Rattle.hq_schema_roles.specs.Leads.{behind, Reaches, filter_target, operator_target}
 use Rattle.hq_request_coerce.specs.Coercion.{enum_value, leaf_by, leaf_value}
 use Rattle.hq_request_coerce.specs.Variables.{VarTree}
-use Rattle.hq_request_arguments.specs.Comparisons.{tested_due, operator_due, operator_of, operator_named, comparisons_due}
+use Rattle.hq_request_arguments.specs.Comparisons.{tested_due, operator_due, operator_of, comparisons_due}
 use Rattle.hq_request_arguments.specs.Comparisons as comparisons
 use Rattle.hq_request_arguments.specs.Context.{Context}
 use Rattle.hq_request_arguments.specs.Operands.{operand_due, truth_due}

@@ -25,7 +25,7 @@ use Rattle.hq_gql_nodes.specs.Fragments.{fragment_named, spread_target}
 use Rattle.hq_gql_nodes.specs.Reach.{has}
 use Rattle.hq_gql_nodes.specs.Known.{PlaceTree, place_of_arg, element_type, input_at, is_non_null}
 use Rattle.hq_gql_nodes.specs.Nodes.{NodeTree, value_node, nodes_in_value, elements_nodes, members_nodes}
-use Rattle.hq_rules_fields.specs.Literals.{scalar_takes, enum_takes, leaf_takes, takes}
+use Rattle.hq_rules_fields.specs.Literals.{leaf_takes, takes}
 use Rattle.hq_rules_fields.specs.Literals as literal
 use Rattle.hq_rules_fields.specs.declared.rules.NodeRule.TheVariants as rule
 use Rattle.hq_rules_reach.specs.Uses.{UseTree, use_of}

@@ -16,7 +16,7 @@ use Rattle.hq_schema.specs.Schema.{TypeRefTree, named, list_of, non_null, base, 
 use Rattle.hq_schema.specs.declared.origin.TypeOrigin.{TypeOrigin}
 use Rattle.hq_schema.specs.declared.origin.TypeOrigin.TheVariants as origin
 use Rattle.hq_gql_nodes.specs.Known.{element_type, input_at, is_non_null}
-use Rattle.hq_request_coerce.specs.Coercion.{null_value, scalar_value, enum_value, leaf_by, leaf_value, in_lists, is_given, is_lacking, default_member, object_of, inputs_at, coerced, coerced_elements, coerced_members}
+use Rattle.hq_request_coerce.specs.Coercion.{leaf_by, leaf_value, in_lists, is_lacking, default_member, object_of, inputs_at, coerced, coerced_elements, coerced_members}
 use Rattle.hq_request_coerce.specs.Coercion as coercion
 use Rattle.hq_laws_request.proofs.Built.BuildingSteps.{map_some, and_then_some}
 

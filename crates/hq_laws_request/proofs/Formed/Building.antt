@@ -22,7 +22,7 @@ use Rattle.hq_request_coerce.specs.Choice.{operation_at}
 use Rattle.hq_request_coerce.specs.Variables.{VarTree}
 use Rattle.hq_request_collect.specs.Collect.{Request}
 use Rattle.hq_request_collect.specs.FieldNodes.{is_bounded}
-use Rattle.hq_request_collect.specs.Keys.{is_narrow, narrow_below, is_distinct, distinct_below, levels_of}
+use Rattle.hq_request_collect.specs.Keys.{is_narrow, levels_of}
 use Rattle.hq_request_collect.specs.Keys as collect
 use Rattle.hq_request_collect.specs.Laws.{Collects}
 use Rattle.hq_request_collect.specs.Size.{is_small}

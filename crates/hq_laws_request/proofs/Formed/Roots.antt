@@ -12,7 +12,7 @@ use Rattle.hq_model.specs.declared.table.Table.{Table}
 use Rattle.hq_gql_tree.specs.Nesting.{arguments_nest}
 use Rattle.hq_gql_tree.specs.Selections.{FieldHead}
 use Rattle.hq_schema.specs.Fixed.{fixed_place}
-use Rattle.hq_schema.specs.Schema.{base, ArgTree, TypeTree, TypeRefTree, SchemaTree}
+use Rattle.hq_schema.specs.Schema.{base, TypeTree, SchemaTree}
 use Rattle.hq_schema.specs.Schema as schema
 use Rattle.hq_schema.specs.declared.fixed.Fixed.TheVariants as fixed
 use Rattle.hq_schema.specs.declared.origin.FieldOrigin.{FieldOrigin}

@@ -11,7 +11,7 @@ use Rattle.hq_model.specs.declared.role.Role.{Role}
 use Rattle.hq_model.specs.declared.table.Table.{Table}
 use Rattle.hq_gql_tree.specs.Nesting.{arguments_nest}
 use Rattle.hq_gql_tree.specs.Selections.{FieldHead}
-use Rattle.hq_schema.specs.Schema.{base, ArgTree, TypeTree, TypeRefTree, SchemaTree}
+use Rattle.hq_schema.specs.Schema.{TypeTree, SchemaTree}
 use Rattle.hq_schema.specs.Schema as schema
 use Rattle.hq_schema.specs.declared.origin.FieldOrigin.{FieldOrigin}
 use Rattle.hq_schema.specs.declared.origin.FieldOrigin.TheVariants as origin

@@ -1,6 +1,5 @@
 //! Tables whose rows lie in the pages of a disk in memory.
 ghost use Rattle.std.specs.Prelude.{None};
-ghost use Rattle.std.specs.Io.{ReadsAtMost};
 
 use hq_base::{List, Txt};
 use hq_generator::{Generated, generate};

@@ -1,4 +1,4 @@
-use Rattle.std.proofs.Common.{◌≡◌, sym}
+use Rattle.std.proofs.Common.{sym}
 use Rattle.hq_command_live.proofs.Talks.{where_failed}
 use Rattle.hq_command_live.proofs.living.live_instance.Goals as goal
 

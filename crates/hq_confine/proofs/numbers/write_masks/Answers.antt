@@ -1,4 +1,4 @@
-use Rattle.std.proofs.Common.{◌∙◌, ◌+◌, ◌<◌, ℕ, ◌≤◌, ◌^◌, List, drop, length, map, ap, sym, subst, arith}
+use Rattle.std.proofs.Common.{◌+◌, ℕ, ◌≤◌, ◌^◌, List, drop, map, ap, sym, subst}
 use Rattle.std.proofs.lemmas.List.{drop_all}
 use Rattle.hq_base.proofs.Loops.{next_item}
 use Rattle.hq_model.specs.PermView.{mask_view}

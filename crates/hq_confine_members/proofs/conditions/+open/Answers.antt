@@ -1,4 +1,4 @@
-use Rattle.std.proofs.Common.{◌∙◌, refl, ap, List, ◌+◌, ◌<◌, ◌++◌, map, drop, length, sym, arith}
+use Rattle.std.proofs.Common.{◌∙◌, ap, List, ◌+◌, ◌<◌, ◌++◌, map, drop, length, sym, arith}
 use Rattle.std.proofs.lemmas.List.{append-nil, at_drop_all}
 use Rattle.hq_sql_tree.specs.declared.select.Pred.{Pred}
 use Rattle.hq_sql_tree.specs.Tree.{preds_of}

@@ -1,4 +1,4 @@
-use Rattle.std.proofs.Common.{◌≡◌, ◌∙◌, ◌<◌, ℕ, List, Option, IfSome, length, true, sym, subst}
+use Rattle.std.proofs.Common.{◌≡◌, ◌<◌, ℕ, List, Option, IfSome, length, true, sym, subst}
 use Rattle.hq_copy_tables.specs.Originals.{meta_in}
 use Rattle.hq_model.specs.Database.{Row}
 use Rattle.hq_model.specs.declared.table.Table.{Table}

@@ -1,7 +1,6 @@
-use Rattle.std.proofs.Common.{◌≡◌, ◌∙◌, ◌++◌, ◌∷◌, ◌<◌, Some, List, length, slice_get, true, ap, sym, subst}
+use Rattle.std.proofs.Common.{◌≡◌, ◌∙◌, ◌++◌, ◌∷◌, ◌<◌, Some, length, slice_get, true, ap, sym, subst}
 use Rattle.std.specs.Vec.Iter.{into_iter_items}
-use Rattle.hq_model.specs.Database.{Row, are_rows, is_database}
-use Rattle.hq_model.specs.declared.table.Table.{Table}
+use Rattle.hq_model.specs.Database.{is_database}
 use Rattle.hq_copy.proofs.Databases.{rows_there, table_there}
 use Rattle.hq_copy.proofs.redacting.rows_list.Goals as goal
 

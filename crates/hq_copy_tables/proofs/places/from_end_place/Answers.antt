@@ -1,4 +1,4 @@
-use Rattle.std.proofs.Common.{Some, None, ◌∙◌, ◌==◌, sym, rules, tests}
+use Rattle.std.proofs.Common.{Some, None, ◌∙◌, sym, rules, tests}
 use Rattle.std.proofs.lemmas.Iterator.{YieldsList-from_slice}
 use Rattle.std.proofs.lemmas.Iterator.Search.{position_from_yields_List}
 use Rattle.hq_copy_definition.specs.Extras.{is_from_end}

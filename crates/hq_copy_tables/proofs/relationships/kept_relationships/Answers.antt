@@ -1,4 +1,4 @@
-use Rattle.std.proofs.Common.{◌≡◌, ◌∙◌, ◌+◌, ◌++◌, ◌∷◌, [], Bool, cond, is_some, ap, drop, sym}
+use Rattle.std.proofs.Common.{◌∙◌, ◌+◌, ◌++◌, ◌∷◌, [], Bool, cond, is_some, ap, drop}
 use Rattle.hq_base.proofs.Loops.{next_item, piece_more}
 use Rattle.hq_copy_definition.specs.Sources.{kept_relationships}
 use Rattle.hq_copy_tables.proofs.Fronts.{places_front}

@@ -1,5 +1,4 @@
 use Rattle.std.proofs.Common.{◌≡◌, drop}
-use Rattle.std.specs.List.{list_all}
 use Rattle.hq_laws_written.specs.Catalog.Written.{has_clean_names}
 use Rattle.hq_copy_text.proofs.clean.tables_are_clean.Given as goal
 

@@ -1,4 +1,4 @@
-use Rattle.std.proofs.Common.{◌≡◌, ◌∙◌, Option, List, ℕ, true, false, refl, ap, sym}
+use Rattle.std.proofs.Common.{◌∙◌, true, false, refl, ap, sym}
 use Rattle.std.specs.Prelude.{option_map}
 use Rattle.std.proofs.lemmas.Option.{slice_get_read}
 use Rattle.std.proofs.lemmas.Result.{IfOk-weaker}

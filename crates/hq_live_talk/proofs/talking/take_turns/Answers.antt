@@ -1,5 +1,5 @@
 use Rattle.std.proofs.Common.{rules, ◌∙◌, ◌++◌, ◌∷◌, [], ◌+◌, ap, length-append}
-use Rattle.hq_live.specs.Runs.{Standing, standing}
+use Rattle.hq_live.specs.Runs.{standing}
 use Rattle.hq_live_talk.specs.Table.{Talk, talk_of}
 use Rattle.hq_live_talk.specs.Talks.{Link, link_of}
 use Rattle.hq_live_talk.proofs.Turns.{ran_more}

@@ -1,4 +1,4 @@
-use Rattle.std.proofs.Common.{◌≡◌, ◌∙◌, ap, sym, subst, rules}
+use Rattle.std.proofs.Common.{◌∙◌, ap, subst}
 use Rattle.std.proofs.Math.Logic.{∥∥₁_elim}
 use Rattle.hq_schema_of_role.specs.RoleSchema.{role_schema}
 use Rattle.hq_schema_roles.proofs.SchemaSets.{schema_set}
