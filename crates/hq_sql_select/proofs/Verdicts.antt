@@ -3,7 +3,7 @@ use Rattle.std.proofs.Common.{◌≡◌, ◌∙◌, ℕ, List, [], ◌∷◌, �
 use Rattle.std.specs.Global.{Vec}
 use Rattle.hq_sql_access.specs.View.{beside, joined_view, place_of, world_of}
 use Rattle.hq_sql_access.specs.declared.pinned.Pinned.{Pinned}
-use Rattle.hq_sql_access.specs.declared.place.Place.{Place}
+use Rattle.hq_sql_access.specs.declared.place.JoinedRow.{JoinedRow}
 use Rattle.hq_sql_access.specs.declared.row.Made.{Made}
 use Rattle.hq_sql_constants.specs.Sieves.{Tells}
 use Rattle.hq_sql_constants.specs.declared.sieve.Verdict.{Verdict}
@@ -24,7 +24,7 @@ told_there js f world n alias row named Dropped e h =
 told_there js f world n alias row named Open e h = tt
 
 -- one place of a row that WHERE keeps, beside which no join stands
-pub adds_kept : (js : JoinTrees) (f : Option Pred) (world : Pinned) (n : Names) (position : ℕ) (places more : List Place) (v : Vec (Option Made))
+pub adds_kept : (js : JoinTrees) (f : Option Pred) (world : Pinned) (n : Names) (position : ℕ) (places more : List JoinedRow) (v : Vec (Option Made))
     → js ≡ no_join → kept (filter_view f) (world_of world) n ≡ true → more ≡ places ++ place_of position v ∷ [] → Adds js f world n position places more
 adds_kept js f world n position places more v alone keeps grown =
     let w = world_of world in
@@ -32,6 +32,6 @@ adds_kept js f world n position places more v alone keeps grown =
     (v ∷ [], grown, ap (λ k. beside k w n (joined_view v) ∷ []) alone ∙ all ∙ ap (λ k. filter (kept (filter_view f) w) (joined k w n)) (sym alone))
 
 -- none of one of which it keeps nothing
-pub adds_none : (js : JoinTrees) (f : Option Pred) (world : Pinned) (n : Names) (position : ℕ) (places : List Place)
+pub adds_none : (js : JoinTrees) (f : Option Pred) (world : Pinned) (n : Names) (position : ℕ) (places : List JoinedRow)
     → filter (kept (filter_view f) (world_of world)) (joined js (world_of world) n) ≡ [] → Adds js f world n position places places
 adds_none js f world n position places none = ([], sym (append-nil places), sym none)

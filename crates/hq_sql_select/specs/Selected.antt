@@ -47,7 +47,7 @@ Told js f world names Dropped = kept_joins js f world names ≡ []
 Told js f world names Open = Unit {0}
 
 -- the second places are the first ones, and behind them those of the rows of joins that WHERE keeps at this position
-abbrev pub Adds : JoinTrees → Option Pred → Pinned → Names → (position : ℕ) → (places more : List Place) → Type 0
+abbrev pub Adds : JoinTrees → Option Pred → Pinned → Names → (position : ℕ) → (places more : List JoinedRow) → Type 0
 Adds js f world names position places more = (lists : List (Vec (Option Made))) × (more ≡ places ++ map (place_of position) lists) × Gathers js f world names lists
 
 -- ORDER BY, and DISTINCT ON

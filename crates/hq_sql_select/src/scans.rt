@@ -36,7 +36,7 @@ pub struct Piece<'d> {
 #[cycle(eval)]
 fn add_row<'d>(
     alloc: Global,
-    places: &mut Vec<Place<'d>>,
+    places: &mut Vec<JoinedRow<'d>>,
     position: usize,
     verdict: Verdict,
     joins: &'d [Join],
@@ -51,7 +51,7 @@ fn add_row<'d>(
     match verdict {
         Verdict::Kept => {
             let joined = Vec::new(alloc);
-            places.push(Place { position, joined })?;
+            places.push(JoinedRow { position, joined })?;
             Ok(())
         }
         Verdict::Dropped => Ok(()),

@@ -342,9 +342,11 @@ scans::any_row-returns t c =
 pub scans::scan_from-add_row-requires : goal.scans::scan_from-add_row-requires
 scans::scan_from-add_row-requires t c =
     let told : Tells (joins_of (map join_view c.args.joins.now)) (filter_view c.args.filter.now) c.args.alias.now (row_in c.args.source c.position_at-position.result) c.in_ok-verdict.verdict =
-    c.in_ok-verdict.ensures in
-    (omega arith, told_there (joins_of (map join_view c.args.joins.now)) c.args.filter.now c.args.world.now (names_of c.args.scope.now c.args.world.now) c.args.alias.now
-    (row_in c.args.source c.position_at-position.result) (row_view c.row_at.result) c.in_ok-verdict.verdict c.row_at.ensures told)
+    c.in_ok-verdict.ensures in (
+      omega arith,
+      told_there (joins_of (map join_view c.args.joins.now)) c.args.filter.now c.args.world.now (names_of c.args.scope.now c.args.world.now) c.args.alias.now
+          (row_in c.args.source c.position_at-position.result) (row_view c.row_at.result) c.in_ok-verdict.verdict c.row_at.ensures told,
+    )
 
 pub scans::scan_from-verdict_at-requires : goal.scans::scan_from-verdict_at-requires
 scans::scan_from-verdict_at-requires t c = c.in_ok-sieve.ensures
