@@ -1,3 +1,5 @@
 pub mod Listed
 pub mod Patterns
+pub mod Plain
+pub mod Sieves
 pub mod Sifted

@@ -1,10 +1,15 @@
-//! Scans whose WHERE asks a column to be one of many constants, or like a long pattern: rows that have none of them, or are not
-//! like it, are left out before WHERE is tried.
+//! Conditions that ask columns of a table for something that constants tell. Scans whose WHERE asks a column to be one of many
+//! constants, or like a long pattern: rows that have none of them, or are not like it, are left out before WHERE is tried. Tests of
+//! columns beside constants are tried at the values of rows, without a scope.
 #![tactic(auto)]
 
 mod listed;
 mod marked;
 mod patterns;
+mod plain;
+mod sieve;
 mod sifted;
 
+pub use plain::{ColumnTest, cell_in, one_holds, tests_of};
+pub use sieve::{Sieve, Verdict, sieve_of, verdict_at};
 pub use sifted::{has_many, left_of, with_left};

@@ -45,7 +45,7 @@ fn long_pattern<'d>(operands: &'d [Expr]) -> Option<&'d Txt>
 pub(crate) fn is_long(test: Test, operands: &[Expr]) -> bool {
     match test {
         Test::Like { .. } => long_pattern(operands).is_some(),
-        Test::Among | Test::Compare(_) | Test::IsNull => false,
+        _ => false,
     }
 }
 

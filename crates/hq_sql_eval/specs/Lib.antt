@@ -1,3 +1,2 @@
 pub mod Filtered
 pub mod Narrowed
-pub mod Plain

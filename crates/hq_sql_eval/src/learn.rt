@@ -17,7 +17,7 @@ ghost use Rattle.hq_sql_eval.specs.Narrowed.{narrowed, keeps_one};
 ghost use Rattle.hq_sql_access.specs.Sources.{alias_in, rows_given};
 ghost use Rattle.hq_sql_access.specs.View.{names_of, source_view, world_of};
 
-use crate::plain::{narrowed_by_tests, tests_of};
+use crate::plain::narrowed_by_tests;
 use hq_base::{Memory, Txt};
 use hq_load_index::Index;
 use hq_load_tables::Rows;
@@ -25,6 +25,7 @@ use hq_sql_access::known::known_of;
 use hq_sql_access::pinned::{KeySet, KnownRows, Pinned};
 use hq_sql_access::scope::{Scope, Source, alias_of, count, row_at, source_of};
 use hq_sql_access::stored::Stored;
+use hq_sql_constants::tests_of;
 use hq_sql_conjuncts::{Names, split};
 use hq_sql_scans::key_set::{has_row, key_set, key_set_of};
 use hq_sql_scans::links::{LinkList, links_of};

@@ -5,3 +5,4 @@ pub mod Evaluated
 pub mod Told
 pub mod Conjunctions
 pub mod Loops
+pub mod Verdicts

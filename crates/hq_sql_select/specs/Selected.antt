@@ -1,5 +1,6 @@
 -- What the clauses of a select give, one behind the other (PostgreSQL, SELECT), of values as they lie in memory.
-use Rattle.std.specs.Prelude.{◌≡◌, ◌++◌, ℕ, List, [], map, take, Option}
+use Rattle.std.specs.Prelude.{◌≡◌, ◌++◌, ℕ, List, [], map, take, true, Option}
+use Rattle.std.specs.Global.{Vec}
 use Rattle.hq_base.specs.Cells.{CellTree}
 use Rattle.hq_sql_tree.specs.declared.expr.Expr.{Expr}
 use Rattle.hq_sql_tree.specs.declared.expr.Order.{Order}
@@ -7,11 +8,14 @@ use Rattle.hq_sql_tree.specs.declared.select.From.{From}
 use Rattle.hq_sql_tree.specs.declared.select.Join.{Join}
 use Rattle.hq_sql_tree.specs.declared.select.Pred.{Pred}
 use Rattle.hq_sql_tree.specs.Meaning.{NamedRow, Scope as Names, with_alias, kept, distinct_on, offset_by, limited, outputs}
+use Rattle.hq_sql_tree.specs.Tree.{JoinTrees, no_join}
 use Rattle.hq_sql_tree.specs.View.{expr_view, filter_view, from_view, order_view, out_view}
 use Rattle.hq_sql_access.specs.Keys.{keyed_at}
 use Rattle.hq_sql_scans.specs.Positions.{rows_at, kept_of, arranged}
 use Rattle.hq_sql_access.specs.Sources.{alias_in, rows_given}
-use Rattle.hq_sql_access.specs.View.{made_view, names_at, names_of, world_of}
+use Rattle.hq_sql_access.specs.View.{made_view, names_at, names_of, place_of, world_of}
+use Rattle.hq_sql_constants.specs.declared.sieve.Verdict.{Verdict}
+use Rattle.hq_sql_constants.specs.declared.sieve.Verdict.TheVariants.{Kept, Dropped, Open}
 use Rattle.hq_sql_access.specs.declared.pinned.Pinned.{Pinned}
 use Rattle.hq_sql_access.specs.declared.place.JoinedRow.{JoinedRow}
 use Rattle.hq_sql_scans.specs.declared.positions.Positions.{Positions}
@@ -19,7 +23,7 @@ use Rattle.hq_sql_access.specs.declared.row.Made.{Made}
 use Rattle.hq_sql_access.specs.declared.scope.Scope.{Scope}
 use Rattle.hq_sql_access.specs.declared.scope.Source.{Source}
 use Rattle.hq_sql_access.specs.declared.stages.Parts.{Parts}
-use Rattle.hq_sql_select.specs.Gathered.{joins_view}
+use Rattle.hq_sql_select.specs.Gathered.{Gathers, joins_view, kept_joins}
 use Rattle.hq_sql_select.specs.declared.scans.Piece.{Piece}
 
 -- what WHERE keeps of these rows of an alias with its joins
@@ -35,6 +39,16 @@ abbrev pub Continues : Source → Positions → (from : ℕ) → (alias : List �
 Continues source positions from alias js f world scope piece =
     kept_from (take from (rows_at source positions)) alias js f world scope ++ map (scope_at source alias js world scope) piece.places.items
     ≡ kept_from (take piece.next (rows_at source positions)) alias js f world scope
+
+-- what is told of what is in scope at a row of FROM is so
+abbrev pub Told : JoinTrees → Option Pred → Pinned → Names → Verdict → Type 0
+Told js f world names Kept = (js ≡ no_join) × (kept (filter_view f) (world_of world) names ≡ true)
+Told js f world names Dropped = kept_joins js f world names ≡ []
+Told js f world names Open = Unit {0}
+
+-- the second places are the first ones, and behind them those of the rows of joins that WHERE keeps at this position
+abbrev pub Adds : JoinTrees → Option Pred → Pinned → Names → (position : ℕ) → (places more : List JoinedRow) → Type 0
+Adds js f world names position places more = (lists : List (Vec (Option Made))) × (more ≡ places ++ map (place_of position) lists) × Gathers js f world names lists
 
 -- ORDER BY, and DISTINCT ON
 abbrev pub arranged_by : List Expr → List Order → List Names → List Names

@@ -1,5 +1,5 @@
 //! Scans: which rows of FROM and its joins WHERE keeps.
-ghost use Rattle.std.specs.Prelude.{◌≡◌, ◌+◌, ◌<◌, ◌≤◌, false, length, IfOk, IfSome};
+ghost use Rattle.std.specs.Prelude.{◌≡◌, ◌+◌, ◌<◌, ◌≤◌, false, length, IfOk, IfSome, OnOk};
 ghost use Rattle.hq_sql_conjuncts.specs.Conjuncts.{lent_weight};
 ghost use Rattle.hq_sql_conjuncts.specs.Weight.{filter_weight};
 ghost use Rattle.hq_sql_tree.specs.Tree.{no_join};
@@ -10,7 +10,7 @@ ghost use Rattle.hq_sql_scans.specs.Positions.{positions_of};
 ghost use Rattle.hq_sql_access.specs.Sources.{has_items};
 ghost use Rattle.hq_sql_access.specs.View.{source_view, world_of, names_of};
 ghost use Rattle.hq_sql_select.specs.Gathered.{joins_view, kept_joins};
-ghost use Rattle.hq_sql_select.specs.Selected.{Continues, kept_from};
+ghost use Rattle.hq_sql_select.specs.Selected.{Adds, Continues, Told, kept_from};
 
 use crate::joins::gather;
 use crate::truths::all_hold;
@@ -19,6 +19,7 @@ use hq_sql_access::pinned::{KnownRows, Pinned};
 use hq_sql_access::place::{JoinedRow, add_places};
 use hq_sql_access::scope::{Scope, Source, row_at};
 use hq_sql_access::stages::Stage;
+use hq_sql_constants::{Verdict, sieve_of, verdict_at};
 use hq_sql_scans::pages::has_enough;
 use hq_sql_scans::positions::{Positions, looked_at, number_of, position_at};
 use hq_sql_tree::{Join, Pred};
@@ -29,6 +30,36 @@ use std::alloc::Global;
 pub struct Piece<'d> {
     pub places: Vec<JoinedRow<'d>>,
     pub next: usize,
+}
+
+// Adds the places of the rows of the joins that WHERE keeps at a row of FROM, of which something may be told.
+#[cycle(eval)]
+fn add_row<'d>(
+    alloc: Global,
+    places: &mut Vec<JoinedRow<'d>>,
+    position: usize,
+    verdict: Verdict,
+    joins: &'d [Join],
+    stages: &[Stage],
+    filter: &'d Option<Pred>,
+    world: &Pinned<'d>,
+    scope: &Scope<'_, 'd>,
+) -> Result<(), Memory>
+    requires { Told (joins_view joins.now) filter.now world.now (names_of scope.now world.now) verdict }
+    ensures { OnOk result (Adds (joins_view joins.now) filter.now world.now (names_of scope.now world.now) position places.old.items places.new.items) }
+{
+    match verdict {
+        Verdict::Kept => {
+            let joined = Vec::new(alloc);
+            places.push(JoinedRow { position, joined })?;
+            Ok(())
+        }
+        Verdict::Dropped => Ok(()),
+        Verdict::Open => {
+            let lists = gather(alloc, joins, stages, filter, world, scope)?;
+            add_places(places, position, lists)
+        }
+    }
 }
 
 /// The places of the rows of FROM and the joins that WHERE keeps, among those at the positions from this one on: of all of them, or up
@@ -55,15 +86,27 @@ pub fn scan_from<'s, 'd>(
 {
     let mut places = Vec::new(alloc);
     let end = number_of(positions);
+    let sieve = sieve_of(alloc, source, alias, joins, filter, end - from)?;
+    let tests = &sieve;
     for turn in from..end {
         let position = position_at(positions, turn);
+        let verdict = verdict_at(alloc, source, alias, joins, filter, tests, position)?;
         let at = Scope::Bound {
             alias,
             row: row_at(source, position),
             outer: &*scope,
         };
-        let lists = gather(alloc, joins, stages, filter, world, &at)?;
-        add_places(&mut places, position, lists)?;
+        add_row(
+            alloc,
+            &mut places,
+            position,
+            verdict,
+            joins,
+            stages,
+            filter,
+            world,
+            &at,
+        )?;
         if has_enough(enough, places.len()) {
             let next = turn + 1;
             return Ok(Piece { places, next });

@@ -45,6 +45,10 @@ use Rattle.hq_sql_select.proofs.Ordered.{elements_are, arranged_is, groups_are}
 use Rattle.hq_sql_select.proofs.Evaluated.{members_mapped, outputs_all, later_is, keys_is, spread_step, any_found, any_passed, scan_step, rows_are, exists_is, paged_map, scan_all, page_front, top_step, top_page, group_step, group_page, group_all}
 use Rattle.hq_sql_select.proofs.Loops.{map_more, scope_more, value_more, holds_next, next_item, view_pair, view_key}
 use Rattle.hq_sql_select.proofs.Told.{none_in, tells_at}
+use Rattle.hq_sql_select.proofs.Verdicts.{adds_kept, told_there}
+use Rattle.hq_sql_select.specs.Selected.{Told}
+use Rattle.hq_sql_constants.specs.Sieves.{Tells}
+use Rattle.hq_sql_constants.specs.declared.sieve.Verdict.TheVariants as verdict
 use Rattle.hq_model.specs.declared.truth.Truth.TheVariants.{Yes}
 use Rattle.hq_sql_select.proofs.+eval.Goals.{truths::all_true-in-Opened+in_ok-all-in-Opened, truths::all_true-in-Tried+in_ok-truth-in-Tried, truths::all_true-in-Other}
 use Rattle.hq_sql_select.proofs.+eval.Goals.{joins::with_due-then-is_due+in_ok-row+in_ok-all-2, joins::with_due-else-is_due}
@@ -335,6 +339,25 @@ scans::any_row-returns t c =
     (take_all c.loop-turn.turn rs all) c.loop-turn.invariant in
     ap has_items (sym none ∙ c.in_ok-looked.ensures w)
 
+pub scans::scan_from-add_row-requires : goal.scans::scan_from-add_row-requires
+scans::scan_from-add_row-requires t c =
+    let told : Tells (joins_of (map join_view c.args.joins.now)) (filter_view c.args.filter.now) c.args.alias.now (row_in c.args.source c.position_at-position.result) c.in_ok-verdict.verdict =
+    c.in_ok-verdict.ensures in (
+      omega arith,
+      told_there (joins_of (map join_view c.args.joins.now)) c.args.filter.now c.args.world.now (names_of c.args.scope.now c.args.world.now) c.args.alias.now
+          (row_in c.args.source c.position_at-position.result) (row_view c.row_at.result) c.in_ok-verdict.verdict c.row_at.ensures told,
+    )
+
+pub scans::scan_from-verdict_at-requires : goal.scans::scan_from-verdict_at-requires
+scans::scan_from-verdict_at-requires t c = c.in_ok-sieve.ensures
+
+pub scans::add_row-returns-in_ok-push-in-Kept : goal.scans::add_row-returns-in_ok-push-in-Kept
+scans::add_row-returns-in_ok-push-in-Kept t c =
+    let js = joins_of (map join_view c.args.joins.now) in
+    let n = names_of c.args.scope.now c.args.world.now in
+    let told : Told js c.args.filter.now c.args.world.now n verdict.Kept = subst (Told js c.args.filter.now c.args.world.now n) c.in-Kept.is c.requires in
+    adds_kept js c.args.filter.now c.args.world.now n c.args.position _ _ c.new-joined.result told.0 told.1 c.in_ok-push-in-Kept.ensures.items
+
 pub scans::scan_from-loop-turn-preserved : goal.scans::scan_from-loop-turn-preserved
 scans::scan_from-loop-turn-preserved t c =
     let js = joins_of (map join_view c.args.joins.now) in
@@ -352,9 +375,9 @@ scans::scan_from-loop-turn-preserved t c =
     let at : row_in c.args.source c.position_at-position.result ≡ get_or rs i [] = ap (row_in c.args.source) c.position_at-position.ensures ∙ sym (at_place c.args.source ps i within) in
     record {
       from = omega (arith, c.loop-turn.invariant.from);
-      places = ap (λ l. before ++ map (names_at c.args.source a js w n) l) c.in_ok-add_places.ensures
+      places = ap (λ l. before ++ map (names_at c.args.source a js w n) l) c.in_ok-add_row.ensures.1
           ∙ scan_step js w n a keeps before c.args.source rs i c.position_at-position.result (row_view c.row_at.result)
-          c.loop-turn.places.items c.in_ok-lists.lists.items lt at c.row_at.ensures c.in_ok-lists.ensures c.loop-turn.invariant.places;
+          c.loop-turn.places.items c.in_ok-add_row.ensures.0 lt at c.row_at.ensures c.in_ok-add_row.ensures.2 c.loop-turn.invariant.places;
     }
 
 pub scans::scan_from-returns-then-has_enough-clause-places : goal.scans::scan_from-returns-then-has_enough-clause-places
@@ -372,9 +395,9 @@ scans::scan_from-returns-then-has_enough-clause-places t c =
     let within : i < length ps = omega (arith, c.loop-turn-test.true, c.number_of-end.ensures) in
     let lt : i < length rs = omega (arith, within, long) in
     let at : row_in c.args.source c.position_at-position.result ≡ get_or rs i [] = ap (row_in c.args.source) c.position_at-position.ensures ∙ sym (at_place c.args.source ps i within) in
-    ap (λ l. before ++ map (names_at c.args.source a js w n) l) c.in_ok-add_places.ensures
+    ap (λ l. before ++ map (names_at c.args.source a js w n) l) c.in_ok-add_row.ensures.1
     ∙ scan_step js w n a keeps before c.args.source rs i c.position_at-position.result (row_view c.row_at.result) c.loop-turn.places.items
-    c.in_ok-lists.lists.items lt at c.row_at.ensures c.in_ok-lists.ensures c.loop-turn.invariant.places
+    c.in_ok-add_row.ensures.0 lt at c.row_at.ensures c.in_ok-add_row.ensures.2 c.loop-turn.invariant.places
 
 pub scans::scan_from-returns-clause-places : goal.scans::scan_from-returns-clause-places
 scans::scan_from-returns-clause-places t c =

@@ -5,7 +5,7 @@ use Rattle.hq_sql_access.specs.View.{world_of}
 use Rattle.hq_sql_tree.specs.View.{pred_view}
 use Rattle.std.specs.Prelude.{List}
 use Rattle.hq_sql_eval.specs.Narrowed.{narrowed}
-use Rattle.hq_sql_eval.specs.Plain.{AreTests, one_holds}
+use Rattle.hq_sql_constants.specs.Plain.{AreTests, one_holds}
 use Rattle.hq_sql_eval.proofs.ColumnTests.{tested_rows}
 use Rattle.hq_sql_eval.proofs.learn.narrowed_stored.Goals as goal
 

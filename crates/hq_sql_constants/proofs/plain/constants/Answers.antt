@@ -2,8 +2,8 @@ use Rattle.std.proofs.Common.{◌<◌, ◌≡◌, ◌∙◌, [], length, map, sy
 use Rattle.hq_sql_cells.specs.View.{cell_view}
 use Rattle.hq_sql_tree.specs.Meaning.{Scope as Names, value}
 use Rattle.hq_sql_tree.specs.View.{expr_view}
-use Rattle.hq_sql_eval.proofs.ColumnTests.{constants_more}
-use Rattle.hq_sql_eval.proofs.plain.constants.Goals as goal
+use Rattle.hq_sql_constants.proofs.ColumnTests.{constants_more}
+use Rattle.hq_sql_constants.proofs.plain.constants.Goals as goal
 
 pub loop-expr-preserved : goal.loop-expr-preserved
 loop-expr-preserved c m =

@@ -1,8 +1,8 @@
 use Rattle.std.proofs.Common.{map, take}
 use Rattle.hq_sql_tree.specs.Tree.{any_of, preds_of}
 use Rattle.hq_sql_tree.specs.View.{pred_view}
-use Rattle.hq_sql_eval.specs.Plain.{AreTests}
-use Rattle.hq_sql_eval.proofs.plain.tests_of_any.Given as goal
+use Rattle.hq_sql_constants.specs.Plain.{AreTests}
+use Rattle.hq_sql_constants.proofs.plain.tests_of_any.Given as goal
 
 -- the tests of the conditions so far
 abbrev pub invariant-loop-pred : goal.invariant-loop-pred

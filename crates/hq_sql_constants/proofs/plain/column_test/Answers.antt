@@ -3,8 +3,8 @@ use Rattle.hq_sql_cells.specs.View.{cell_view}
 use Rattle.hq_sql_scans.specs.Links.{IsOwn}
 use Rattle.hq_sql_tree.specs.Meaning.{Scope as Names, value}
 use Rattle.hq_sql_tree.specs.View.{expr_view}
-use Rattle.hq_sql_eval.proofs.ColumnTests.{test_is}
-use Rattle.hq_sql_eval.proofs.plain.column_test.Goals as goal
+use Rattle.hq_sql_constants.proofs.ColumnTests.{test_is}
+use Rattle.hq_sql_constants.proofs.plain.column_test.Goals as goal
 
 pub returns-in-Some-2 : goal.returns-in-Some-2
 returns-in-Some-2 c =

@@ -9,9 +9,9 @@ use Rattle.hq_model.specs.declared.table.Column.{Column}
 use Rattle.hq_model.specs.declared.truth.Truth.{Truth}
 use Rattle.hq_sql_cells.specs.View.{cell_view}
 use Rattle.hq_sql_conjuncts.specs.Split.{kept_one}
-use Rattle.hq_sql_tree.specs.Meaning.{Scope as Names, World, named_row, truth_at, with_alias}
+use Rattle.hq_sql_tree.specs.Meaning.{Scope as Names, World, named_row, truth_at}
 use Rattle.hq_sql_tree.specs.Tree.{PredTree}
-use Rattle.hq_sql_eval.specs.declared.plain.ColumnTest.{ColumnTest}
+use Rattle.hq_sql_constants.specs.declared.plain.ColumnTest.{ColumnTest}
 
 -- what a test of a column says of a row
 abbrev pub told : ColumnTest → Row → Truth
@@ -21,9 +21,9 @@ told t row = negated_if t.negated (test_truth t.test (cell_in row t.column) (map
 abbrev pub one_holds : List ColumnTest → Row → Bool
 one_holds ts row = list_any (λ t. is_true (told t row)) ts
 
--- a test says of a row of the table what a condition is there
+-- a test says of a row of the table what a condition is where the alias is this row
 pub record IsTest (columns : List Column) (alias : List ℕ) (p : PredTree) (t : ColumnTest) : Type 0 where
-  pub says : (w : World) (row : Row) (n : Names) → truth_at p w (with_alias n alias (named_row columns row)) ≡ told t row
+  pub says : (w : World) (row : Row) (m : Names) → m alias ≡ named_row columns row → truth_at p w m ≡ told t row
 
 -- the same of one that is not negated
 pub record IsPlainTest (columns : List Column) (alias : List ℕ) (p : PredTree) (t : ColumnTest) : Type 0 where
@@ -34,6 +34,6 @@ pub record IsPlainTest (columns : List Column) (alias : List ℕ) (p : PredTree)
 abbrev pub turned : ColumnTest → ColumnTest
 turned t = record { column = t.column; negated = true; test = t.test; operands = t.operands }
 
--- a condition is true at a row of the table exactly where one of these tests is
+-- a condition is true where the alias is a row of the table exactly where one of these tests is
 pub record AreTests (columns : List Column) (alias : List ℕ) (p : PredTree) (ts : List ColumnTest) : Type 0 where
-  pub keeps : (w : World) (row : Row) (n : Names) → kept_one p w (with_alias n alias (named_row columns row)) ≡ one_holds ts row
+  pub keeps : (w : World) (row : Row) (m : Names) → m alias ≡ named_row columns row → kept_one p w m ≡ one_holds ts row

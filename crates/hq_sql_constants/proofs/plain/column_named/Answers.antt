@@ -4,7 +4,7 @@ use Rattle.hq_sql_tree.specs.View.{expr_view}
 use Rattle.hq_model.specs.declared.table.Column.{Column}
 use Rattle.hq_sql_scans.specs.Links.{IsOwn}
 use Rattle.hq_sql_scans.proofs.Linked.{own_is}
-use Rattle.hq_sql_eval.proofs.plain.column_named.Goals as goal
+use Rattle.hq_sql_constants.proofs.plain.column_named.Goals as goal
 
 pub returns-in-Some : goal.returns-in-Some
 returns-in-Some c =
