@@ -1,8 +1,7 @@
-//! Redacted copies of texts that no table file holds.
+//! A redacted copy of a text that no table file gives.
 use hq_base::{List, Memory, Txt, Val};
 use hq_copy::{Redacted, redact};
 use hq_copy_definition::CopyRefusal;
-use hq_copy_text::{PartRefusal, part};
 use hq_generator::{Generated, caller, generate};
 use hq_load_tables::{MemTables, Rows};
 use hq_model::{Table, TableId};
@@ -11,9 +10,6 @@ use std::test::Fail;
 
 // The name of the table of authors.
 const AUTHORS: &str = "public.author";
-
-// How often the text of one quote is doubled: its file is longer than any that is read.
-const DOUBLINGS: usize = 27;
 
 fn text(alloc: Global, word: &str) -> Result<Txt, Memory> {
     let mut text = Txt::new(alloc);
@@ -77,23 +73,5 @@ fn a_text_that_is_read_as_null_is_refused(rt: HostRuntime) -> Result<(), Fail> {
     };
     assert!(rt; table == text(rt.alloc(), AUTHORS)?);
     assert!(rt; position == 2);
-    Ok(())
-}
-
-#[test]
-fn a_part_longer_than_a_file_is_refused(rt: HostRuntime) -> Result<(), Fail> {
-    let mut name = text(rt.alloc(), "\"")?;
-    for _ in 0..DOUBLINGS {
-        let copy = name.copy(rt.alloc())?;
-        name.push_txt(&copy)?;
-    }
-    let Some(Ok(copy)) = copied(rt.alloc(), name)? else {
-        assert!(rt; false);
-        return Ok(());
-    };
-    let authors = part(rt.alloc(), &copy, &text(rt.alloc(), AUTHORS)?);
-    assert!(rt; matches!(authors, Err(PartRefusal::TooLarge)));
-    let articles = part(rt.alloc(), &copy, &text(rt.alloc(), "public.article")?);
-    assert!(rt; articles.is_ok());
     Ok(())
 }
