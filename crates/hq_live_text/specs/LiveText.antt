@@ -1,6 +1,6 @@
 -- Live texts: the compact text of a request, in which each keyword `subscription` that begins an operation of the query text
 -- (GraphQL October 2021, 2.3) is written as `query` and seven spaces, so that places stay.
-use Rattle.std.specs.Prelude.{ℕ, List, [], ◌∷◌, ◌++◌, ◌+◌, length, take, drop, map, Bool, true, false, nat_lt, bytes_eq, codes, Option, Some, None, is_some, option_and_then, Result, Ok, Err, if◌then◌else◌, cond}
+use Rattle.std.specs.Prelude.{ℕ, List, [], ◌∷◌, ◌++◌, ◌+◌, length, take, drop, map, Bool, nat_lt, bytes_eq, codes, Option, Some, None, is_some, option_and_then, Result, Ok, Err, if◌then◌else◌}
 use Rattle.std.specs.List.{list_any}
 use Rattle.hq_base.specs.Json.{JsonTree, str, obj, members_of}
 use Rattle.hq_base.specs.Look.{member_in, object_in, str_in}
