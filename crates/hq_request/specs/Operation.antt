@@ -3,6 +3,7 @@
 use Rattle.std.specs.Prelude.{ℕ, List, codes, Option, option_and_then, Result}
 use Rattle.hq_request_build.specs.Due.{build_due}
 use Rattle.hq_request_tree.specs.Request.{AskTree}
+use Rattle.hq_base.specs.Due.{◌>>=◌}
 use Rattle.hq_base.specs.Json.{JsonTree}
 use Rattle.hq_base.specs.Look.{str_in, member_in}
 use Rattle.hq_request_coerce.specs.Choice.{chosen}

@@ -2,6 +2,7 @@
 -- first that refuses decides. No database is looked at.
 use Rattle.std.specs.Prelude.{ℕ, List, Bool, true, false, Option, Some, None, Result, Ok, Err}
 use Rattle.hq_request_tree.specs.Request.{AskTree}
+use Rattle.hq_base.specs.Due.{◌>>=◌}
 use Rattle.hq_faults.specs.declared.faults.RequestFault.{RequestFault}
 use Rattle.hq_schema_of_role.specs.RoleSchema.{role_schema}
 use Rattle.hq_schema.specs.Schema.{SchemaTree}
