@@ -1,24 +1,27 @@
 //! A redacted copy of a text that no table file gives.
-use hq_base::{List, Memory, Txt, Val};
+ghost use Rattle.std.specs.Prelude.{◌≡◌, IfOk, IfSome, true};
+ghost use Rattle.hq_model.specs.Database.{are_rows, is_database};
+
+use hq_base::{List, Txt, Val};
 use hq_copy::{Redacted, redact};
 use hq_copy_definition::CopyRefusal;
 use hq_generator::{Generated, caller, generate};
-use hq_load_tables::{MemTables, Rows};
-use hq_model::{Table, TableId};
+use hq_load_tables::{MemTables, Rows, RowsList};
+use hq_model::Table;
 use std::alloc::Global;
 use std::test::Fail;
 
 // The name of the table of authors.
 const AUTHORS: &str = "public.author";
 
-fn text(alloc: Global, word: &str) -> Result<Txt, Memory> {
-    let mut text = Txt::new(alloc);
-    text.push_str(word)?;
-    Ok(text)
+fn text(alloc: Global, word: &str) -> Result<Txt, Fail> {
+    Ok(Txt::of(alloc, word.as_bytes())?)
 }
 
 // Two authors, the second of whom has this name, where they are valid.
-fn authors(alloc: Global, name: Txt, table: &Table) -> Result<Option<Rows>, Memory> {
+fn authors(alloc: Global, name: Txt, table: &Table) -> Result<Option<Rows>, Fail>
+    ensures { IfOk result (λ found. IfSome found (λ rows. are_rows table.now rows ≡ true)) }
+{
     let mut values = Vec::new(alloc);
     values.push(Val::Int(1))?;
     values.push(Val::Text(text(alloc, "Ann")?))?;
@@ -26,15 +29,35 @@ fn authors(alloc: Global, name: Txt, table: &Table) -> Result<Option<Rows>, Memo
     values.push(Val::Int(2))?;
     values.push(Val::Text(name))?;
     values.push(Val::Null)?;
-    if values.len() != 2 * table.columns.len() {
+    if values.len() != 6 || table.columns.len() != 3 {
         return Ok(None);
     }
-    Rows::tested(alloc, values, 2, table)
+    Ok(Rows::tested(alloc, values, 2, table)?)
 }
 
 // No rows.
-fn none(alloc: Global, table: &Table) -> Result<Option<Rows>, Memory> {
-    Rows::tested(alloc, Vec::new(alloc), 0, table)
+fn none(alloc: Global, table: &Table) -> Result<Option<Rows>, Fail>
+    ensures { IfOk result (λ found. IfSome found (λ rows. are_rows table.now rows ≡ true)) }
+{
+    let values = Vec::new(alloc);
+    Ok(Rows::tested(alloc, values, 0, table)?)
+}
+
+// Rows of both tables, where they are valid.
+fn rows(alloc: Global, name: Txt, tables: &[Table]) -> Result<Option<RowsList>, Fail>
+    ensures { IfOk result (λ found. IfSome found (λ rows. is_database tables.now rows ≡ true)) }
+{
+    let [author, article] = tables else {
+        return Ok(None);
+    };
+    let (Some(authors), Some(articles)) = (authors(alloc, name, author)?, none(alloc, article)?)
+    else {
+        return Ok(None);
+    };
+    let mut rows = List::new(alloc);
+    rows.push(authors)?;
+    rows.push(articles)?;
+    Ok(Some(rows))
 }
 
 type Copy = Result<Redacted, CopyRefusal>;
@@ -46,19 +69,9 @@ fn copied(alloc: Global, name: Txt) -> Result<Option<Copy>, Fail> {
         meta,
         rows: _,
     } = generate(alloc, 1)?;
-    let (Some(author), Some(article)) = (
-        catalog.table(TableId::new(0)),
-        catalog.table(TableId::new(1)),
-    ) else {
+    let Some(rows) = rows(alloc, name, catalog.tables.as_slice())? else {
         return Ok(None);
     };
-    let (Some(authors), Some(articles)) = (authors(alloc, name, author)?, none(alloc, article)?)
-    else {
-        return Ok(None);
-    };
-    let mut rows = List::new(alloc);
-    rows.push(authors)?;
-    rows.push(articles)?;
     let mut tables = MemTables::new(catalog.copy(alloc)?, rows);
     let session = caller(alloc)?;
     Ok(Some(redact(alloc, &catalog, &meta, &session, &mut tables)))
