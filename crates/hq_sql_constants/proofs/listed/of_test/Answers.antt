@@ -13,7 +13,7 @@ use Rattle.hq_sql_constants.proofs.Ones.{test_asks}
 use Rattle.hq_sql_constants.proofs.listed.of_test.Goals as goal
 
 pub returns : goal.returns
-returns c =
+returns c w =
     let own = expr_view c.args.own.now in
     let alias = c.args.alias.now in
     let name = c.args.name.now in
@@ -21,9 +21,9 @@ returns c =
     let one = c.is_of_one.ensures c.if-not-is_of_one.false in
     let is : is_column alias name own ≡ true = sym c.is_column.ensures ∙ c.if-not-is_column.false in
     let weaker : (o : Option (Vec Val)) → IfSome o (λ vs. (m : Names) → map (λ e. value (expr_view e) [] m) c.as_slice.result.now ≡ map cell_of vs.items)
-    → IfSome o (λ vs. AsksOneOf (tested own c.args.test (map expr_view es)) alias name vs.items) =
+    → IfSome o (λ vs. AsksOneOf w (tested own c.args.test (map expr_view es)) alias name vs.items) =
     elim [
       | None ↦ λ h. h
-      | Some vs ↦ λ h. test_asks own c.args.test es alias name vs.items one is (subst (λ xs. (m : Names) → map (λ e. value (expr_view e) [] m) xs ≡ map cell_of vs.items) c.as_slice.ensures.value h)
+      | Some vs ↦ λ h. test_asks w own c.args.test es alias name vs.items one is (subst (λ xs. (m : Names) → map (λ e. value (expr_view e) [] m) xs ≡ map cell_of vs.items) c.as_slice.ensures.value h)
     ] in
     IfOk-weaker c.constants.result _ _ weaker c.constants.ensures
