@@ -24,7 +24,7 @@ use Rattle.hq_model.specs.declared.truth.Truth.TheVariants.{Yes}
 use Rattle.hq_model.specs.declared.table.Column.{Column}
 use Rattle.hq_sql_access.specs.Equations.{is_joined, key_cell}
 use Rattle.hq_sql_access.specs.Sources.{has_items}
-use Rattle.hq_sql_access.specs.View.{row_in, scope_of}
+use Rattle.hq_sql_access.specs.View.{row_in, scope_of, source_view}
 use Rattle.hq_sql_access.specs.declared.scope.Scope.{Scope}
 use Rattle.hq_sql_access.specs.declared.stages.Parts.{Parts}
 use Rattle.hq_sql_access.specs.declared.scope.Source.{Source}
