@@ -47,7 +47,7 @@ fn keys_of(
 }
 
 /// The values of which an EXISTS asks the column to be one, where they are known.
-#[tactic(auto, using(crate::proofs::Keyed::set_asks))]
+#[tactic(auto, using(crate::proofs::KeyValues::set_asks))]
 pub(crate) fn known_keys(
     alloc: Global,
     pred: &Pred,

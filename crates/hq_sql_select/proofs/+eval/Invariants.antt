@@ -246,7 +246,7 @@ decreases-pages::page l =
     + (total (map expr_weight l.parts.distinct.now.items) + scope_weight l.scope.now))))
 
 abbrev pub decreases-pages::page_front : goal.decreases-pages::page_front
-decreases-pages::page_front l = 6 + (total (map join_weight l.joins.now) + (filter_weight l.filter.now + scope_weight l.scope.now))
+decreases-pages::page_front l = 7 + (total (map join_weight l.joins.now) + (filter_weight l.filter.now + scope_weight l.scope.now))
 
 abbrev pub decreases-pages::page_top : goal.decreases-pages::page_top
 decreases-pages::page_top l =
