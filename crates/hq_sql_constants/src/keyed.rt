@@ -1,12 +1,13 @@
 //! The values that an EXISTS whose keys are known asks a column to be one of.
-ghost use Rattle.std.specs.Prelude.{◌≡◌, IfOk, IfSome};
+ghost use Rattle.std.specs.Prelude.{◌≡◌, ◌∷◌, [], IfOk, IfSome};
 ghost use Rattle.hq_load_index.specs.Grids.{rows_in};
+ghost use Rattle.hq_load_index.specs.Indexes.{columns_of};
 ghost use Rattle.hq_sql_access.specs.View.{world_of};
 ghost use Rattle.hq_sql_constants.specs.Listed.{AreKeys, AsksOneOf, values_in};
 ghost use Rattle.hq_sql_tree.specs.View.{pred_view};
 
 use hq_base::{Memory, Txt, Val};
-use hq_load_index::Grid;
+use hq_load_index::{Grid, Index};
 use hq_model::ColId;
 use hq_sql_access::equations::is_column;
 use hq_sql_access::pinned::{KeySet, Pinned};
@@ -28,7 +29,26 @@ fn values_in(alloc: Global, rows: &Grid, column: ColId) -> Result<Vec<Val>, Memo
     Ok(values)
 }
 
+fn one_column(index: &Index) -> Option<ColId>
+    ensures { IfSome result (λ column. columns_of index.now ≡ column ∷ []) }
+{
+    match index.columns() {
+        [column] => Some(*column),
+        _ => None,
+    }
+}
+
+fn one_link<'d>(set: &KeySet<'d>) -> Option<&'d Expr>
+    ensures { IfSome result (λ link. set.now.links.items ≡ link ∷ []) }
+{
+    match set.links.as_slice() {
+        [link] => Some(*link),
+        _ => None,
+    }
+}
+
 // The keys of one column, where that is asked to equal the column of this name of the alias.
+#[tactic(auto, using(crate::proofs::KeyValues::keys_are))]
 fn keys_of(
     alloc: Global,
     set: &KeySet<'_>,
@@ -37,13 +57,14 @@ fn keys_of(
 ) -> Result<Option<Vec<Val>>, Memory>
     ensures { IfOk result (λ found. IfSome found (λ values. AreKeys set.now alias.now name.now values.items)) }
 {
-    let ([link], [column]) = (set.links.as_slice(), set.index.columns()) else {
+    let (Some(link), Some(column)) = (one_link(set), one_column(&set.index)) else {
         return Ok(None);
     };
     if set.grid.len() > MOST || !is_column(link, alias, name) {
         return Ok(None);
     }
-    Ok(Some(values_in(alloc, &set.grid, *column)?))
+    let values = values_in(alloc, &set.grid, column)?;
+    Ok(Some(values))
 }
 
 /// The values of which an EXISTS asks the column to be one, where they are known.
@@ -69,8 +90,5 @@ pub(crate) fn linked_by<'m>(pred: &Pred, world: &'m Pinned<'_>) -> Option<&'m Ex
     if set.grid.len() > MOST {
         return None;
     }
-    match set.links.as_slice() {
-        [link] => Some(*link),
-        _ => None,
-    }
+    one_link(set)
 }

@@ -1,7 +1,7 @@
 //! The constants of which a condition asks a column to be one.
 ghost use Rattle.std.specs.Prelude.{◌≡◌, ◌++◌, [], true, map, IfOk, IfSome};
 ghost use Rattle.hq_base.specs.Cells.{cell_of};
-ghost use Rattle.hq_sql_tree.specs.Meaning.{Scope as Names, World, value};
+ghost use Rattle.hq_sql_tree.specs.Meaning.{Scope as Names, value};
 ghost use Rattle.hq_sql_access.specs.View.{world_of};
 ghost use Rattle.hq_sql_tree.specs.Tree.{all_of, any_of, preds_of, test as tested};
 ghost use Rattle.hq_sql_tree.specs.View.{expr_view, pred_view};
@@ -68,8 +68,9 @@ fn of_test(
     operands: &ExprList,
     alias: &Txt,
     name: &Txt,
+    world: &Pinned<'_>,
 ) -> Result<Option<Vec<Val>>, Memory>
-    ensures { (w : World) → IfOk result (λ found. IfSome found (λ vs. AsksOneOf w (tested (expr_view own.now) test (map expr_view operands.now.items)) alias.now name.now vs.items)) }
+    ensures { IfOk result (λ found. IfSome found (λ vs. AsksOneOf (world_of world.now) (tested (expr_view own.now) test (map expr_view operands.now.items)) alias.now name.now vs.items)) }
 {
     if !is_of_one(test) {
         return Ok(None);
@@ -95,7 +96,7 @@ fn of_pred(
             value,
             test,
             operands,
-        } => of_test(alloc, value, *test, operands, alias, name),
+        } => of_test(alloc, value, *test, operands, alias, name, world),
         Pred::Exists(_) => known_keys(alloc, pred, alias, name, world),
         Pred::True | Pred::False | Pred::Not(_) | Pred::And(_) | Pred::Or(_) => Ok(None),
     }

@@ -8,12 +8,14 @@ use Rattle.hq_sql_access.specs.Equations.{is_column}
 use Rattle.hq_sql_tree.specs.Meaning.{Scope as Names, value}
 use Rattle.hq_sql_tree.specs.Tree.{test as tested}
 use Rattle.hq_sql_tree.specs.View.{expr_view}
+use Rattle.hq_sql_access.specs.View.{world_of}
 use Rattle.hq_sql_constants.specs.Listed.{AsksOneOf}
 use Rattle.hq_sql_constants.proofs.Ones.{test_asks}
 use Rattle.hq_sql_constants.proofs.listed.of_test.Goals as goal
 
 pub returns : goal.returns
-returns c w =
+returns c =
+    let w = world_of c.args.world.now in
     let own = expr_view c.args.own.now in
     let alias = c.args.alias.now in
     let name = c.args.name.now in
