@@ -80,3 +80,17 @@ texts_cmp true true s t = refl
 texts_cmp true false s t = refl
 texts_cmp false true s t = refl
 texts_cmp false false s t = refl
+
+-- what the fronts of two first keys tell is the order of the keys
+fronts_first : (desc nulls : Bool) (x y : CellTree) (l r : ℕ) (o : Ordering) (s t : List ℕ) → x ≡ text s → y ≡ text t → l ≡ front_of s → r ≡ front_of t → Small s → Small t
+    → o ≡ cond desc (nat_cmp r l) (nat_cmp l r) → is_eq o ≡ false → key_cmp desc nulls x y ≡ o
+fronts_first desc nulls x y l r o s t ex ey el er ss st eo differs = by desc o eo differs
+  where
+    less : (a b : List ℕ) → Small a → Small b → front_of a < front_of b → slice_cmp nat_cmp a b ≡ Less
+    less a b = lesser 8 0 a b
+    by : (d : Bool) (o : Ordering) → o ≡ cond d (nat_cmp r l) (nat_cmp l r) → is_eq o ≡ false → key_cmp d nulls x y ≡ o
+    by d Equal e f = cc
+    by true Less e f = ap₂ (key_cmp true nulls) ex ey ∙ texts_cmp true nulls s t ∙ ap (λ q. ordering_then q Equal) (less t s st ss (ap₂ (λ a b. a < b) er el ▸ ranked r l Less e))
+    by true Greater e f = ?
+    by false Less e f = ap₂ (key_cmp false nulls) ex ey ∙ texts_cmp false nulls s t ∙ ap (λ q. ordering_then q Equal) (less s t ss st (ap₂ (λ a b. a < b) el er ▸ ranked l r Less e))
+    by false Greater e f = ?
