@@ -2,27 +2,24 @@
 use Rattle.std.proofs.Common.{◌≡◌, ◌∙◌, ◌<◌, ◌≤◌, ◌+◌, ◌*◌, ◌-◌, ◌^◌, ℕ, zero, suc, List, [], ◌∷◌, length, drop, drop-cons, get_or, Bool, true, false, cond, Option, Some, None, Ordering, Less, Equal, Greater, is_eq, refl, sym, ap, ap₂, subst, add-one, arith}
 use Rattle.std.specs.Prelude.{IfSome}
 use Rattle.std.specs.Cmp.Lexicographic.{slice_cmp}
-use Rattle.std.specs.Ordering.{nat_cmp, ordering_then}
+use Rattle.std.specs.Ordering.{nat_cmp, ordering_then, ordering_reverse}
+use Rattle.std.specs.Cmp.Lexicographic.{nat_list_cmp_total}
 use Rattle.std.proofs.lemmas.Cmp.{ranked}
 use Rattle.hq_base.specs.Aggregates.{first_cell}
 use Rattle.hq_base.specs.Cells.{CellTree, text, key_cmp}
-use Rattle.hq_base.specs.Lists.{Each}
-use Rattle.hq_sql_cells.specs.Fronts.{IsFront, digits, front_cmp, front_of}
-use Rattle.hq_sql_cells.specs.Keys.{keys_cmp}
+use Rattle.hq_sql_cells.specs.Fronts.{AreBytes, digits, first_bytes, first_front, front_cmp, front_of}
+use Rattle.hq_sql_cells.specs.Keys.{keys_cmp, other_cells}
 use Rattle.hq_sql_cells.specs.declared.order.Direction.{Direction}
-
-abbrev pub Small : List ℕ → Type 0
-Small = Each (λ b. b < 256)
 
 -- ---- numbers of digits
 
 -- what differs before the further digits differs behind them
-digits_lt : (n a b : ℕ) (xs ys : List ℕ) → Small xs → a < b → digits n a xs < digits n b ys
+digits_lt : (n a b : ℕ) (xs ys : List ℕ) → AreBytes xs → a < b → digits n a xs < digits n b ys
 digits_lt zero a b xs ys small h = h
-digits_lt (suc n) a b [] [] small h = digits_lt n (a * 256) (b * 256) [] [] tt (omega (arith, h))
-digits_lt (suc n) a b [] (d ∷ ds) small h = digits_lt n (a * 256) (b * 256 + d) [] ds tt (omega (arith, h))
-digits_lt (suc n) a b (c ∷ cs) [] small h = digits_lt n (a * 256 + c) (b * 256) cs [] small.1 (omega (arith, h, small.0))
-digits_lt (suc n) a b (c ∷ cs) (d ∷ ds) small h = digits_lt n (a * 256 + c) (b * 256 + d) cs ds small.1 (omega (arith, h, small.0))
+digits_lt (suc n) a b [] [] small h = digits_lt n (a * 256) (b * 256) [] [] small (omega (arith, h))
+digits_lt (suc n) a b [] (d ∷ ds) small h = digits_lt n (a * 256) (b * 256 + d) [] ds small (omega (arith, h))
+digits_lt (suc n) a b (c ∷ cs) [] small h = digits_lt n (a * 256 + c) (b * 256) cs [] (λ i. small (suc i)) (omega (arith, h, small 0))
+digits_lt (suc n) a b (c ∷ cs) (d ∷ ds) small h = digits_lt n (a * 256 + c) (b * 256 + d) cs ds (λ i. small (suc i)) (omega (arith, h, small 0))
 
 -- zeros are the least digits
 digits_le : (n a b : ℕ) (ys : List ℕ) → a ≤ b → digits n a [] ≤ digits n b ys
@@ -31,7 +28,7 @@ digits_le (suc n) a b [] h = digits_le n (a * 256) (b * 256) [] (omega (arith, h
 digits_le (suc n) a b (d ∷ ds) h = digits_le n (a * 256) (b * 256 + d) ds (omega (arith, h))
 
 -- texts of which one has the lesser front are so ordered
-lesser : (n a : ℕ) (xs ys : List ℕ) → Small xs → Small ys → digits n a xs < digits n a ys → slice_cmp nat_cmp xs ys ≡ Less
+lesser : (n a : ℕ) (xs ys : List ℕ) → AreBytes xs → AreBytes ys → digits n a xs < digits n a ys → slice_cmp nat_cmp xs ys ≡ Less
 lesser zero a xs ys sx sy h = absurd (omega (arith, h))
 lesser (suc n) a [] [] sx sy h = absurd (omega (arith, h))
 lesser (suc n) a [] (d ∷ ds) sx sy h = refl
@@ -43,10 +40,10 @@ lesser (suc n) a (c ∷ cs) (d ∷ ds) sx sy h = by (nat_cmp c d) refl
     by Equal e =
         let same : c ≡ d = ranked c d Equal (sym e) in
         let later : digits n (a * 256 + c) cs < digits n (a * 256 + c) ds = subst (λ k. digits n (a * 256 + c) cs < digits n (a * 256 + k) ds) (sym same) h in
-        rw e (lesser n (a * 256 + c) cs ds sx.1 sy.1 later)
+        rw e (lesser n (a * 256 + c) cs ds (λ i. sx (suc i)) (λ i. sy (suc i)) later)
     by Greater e =
         let above : d < c = ranked c d Greater (sym e) in
-        let turned = digits_lt n (a * 256 + d) (a * 256 + c) ds cs sy.1 (omega (arith, above)) in
+        let turned = digits_lt n (a * 256 + d) (a * 256 + c) ds cs (λ i. sy (suc i)) (omega (arith, above)) in
         absurd (omega (arith, h, turned))
 
 -- so many digits more than none, taken one by one
@@ -81,16 +78,56 @@ texts_cmp true false s t = refl
 texts_cmp false true s t = refl
 texts_cmp false false s t = refl
 
--- what the fronts of two first keys tell is the order of the keys
-fronts_first : (desc nulls : Bool) (x y : CellTree) (l r : ℕ) (o : Ordering) (s t : List ℕ) → x ≡ text s → y ≡ text t → l ≡ front_of s → r ≡ front_of t → Small s → Small t
+greater : (a b : List ℕ) → slice_cmp nat_cmp a b ≡ Less → slice_cmp nat_cmp b a ≡ Greater
+greater a b h = nat_list_cmp_total.antisymm b a ∙ ap ordering_reverse h
+
+-- what the fronts of the first keys tell is the order of these keys
+first_tells : (desc nulls : Bool) (x y : CellTree) (l r : ℕ) (o : Ordering) (s t : List ℕ) → x ≡ text s → y ≡ text t → l ≡ front_of s → r ≡ front_of t → AreBytes s → AreBytes t
     → o ≡ cond desc (nat_cmp r l) (nat_cmp l r) → is_eq o ≡ false → key_cmp desc nulls x y ≡ o
-fronts_first desc nulls x y l r o s t ex ey el er ss st eo differs = by desc o eo differs
+first_tells desc nulls x y l r o s t ex ey el er ss st eo differs = by desc o eo differs
   where
-    less : (a b : List ℕ) → Small a → Small b → front_of a < front_of b → slice_cmp nat_cmp a b ≡ Less
-    less a b = lesser 8 0 a b
     by : (d : Bool) (o : Ordering) → o ≡ cond d (nat_cmp r l) (nat_cmp l r) → is_eq o ≡ false → key_cmp d nulls x y ≡ o
     by d Equal e f = cc
-    by true Less e f = ap₂ (key_cmp true nulls) ex ey ∙ texts_cmp true nulls s t ∙ ap (λ q. ordering_then q Equal) (less t s st ss (ap₂ (λ a b. a < b) er el ▸ ranked r l Less e))
-    by true Greater e f = ?
-    by false Less e f = ap₂ (key_cmp false nulls) ex ey ∙ texts_cmp false nulls s t ∙ ap (λ q. ordering_then q Equal) (less s t ss st (ap₂ (λ a b. a < b) el er ▸ ranked l r Less e))
-    by false Greater e f = ?
+    by true Less e f =
+        let below = ranked r l Less e in
+        ap₂ (key_cmp true nulls) ex ey ∙ texts_cmp true nulls s t ∙ ap (λ q. ordering_then q Equal) (lesser 8 0 t s st ss (omega (arith, below, el, er)))
+    by true Greater e f =
+        let above = ranked r l Greater e in
+        ap₂ (key_cmp true nulls) ex ey ∙ texts_cmp true nulls s t ∙ ap (λ q. ordering_then q Equal) (greater s t (lesser 8 0 s t ss st (omega (arith, above, el, er))))
+    by false Less e f =
+        let below = ranked l r Less e in
+        ap₂ (key_cmp false nulls) ex ey ∙ texts_cmp false nulls s t ∙ ap (λ q. ordering_then q Equal) (lesser 8 0 s t ss st (omega (arith, below, el, er)))
+    by false Greater e f =
+        let above = ranked l r Greater e in
+        ap₂ (key_cmp false nulls) ex ey ∙ texts_cmp false nulls s t ∙ ap (λ q. ordering_then q Equal) (greater t s (lesser 8 0 t s st ss (omega (arith, above, el, er))))
+
+decided : (o p : Ordering) → is_eq o ≡ false → ordering_then o p ≡ o
+decided Less p e = refl
+decided Equal p e = cc
+decided Greater p e = refl
+
+first_of : (d : Direction) (ds : List Direction) (xs ys : List CellTree) (o : Ordering) → key_cmp d.desc d.nulls_first (first_cell xs) (first_cell ys) ≡ o → is_eq o ≡ false → keys_cmp (d ∷ ds) xs ys ≡ o
+first_of d ds xs ys o e differs = ap (λ q. ordering_then q (keys_cmp ds (other_cells xs) (other_cells ys))) e ∙ decided o (keys_cmp ds (other_cells xs) (other_cells ys)) differs
+
+-- what the fronts of two rows tell is the order of their keys
+both_tell : (d : Direction) (ds : List Direction) (xs ys : List CellTree) (l r : Option ℕ) (o : Ordering) → l ≡ first_front xs → r ≡ first_front ys
+    → AreBytes (first_bytes xs) → AreBytes (first_bytes ys) → o ≡ front_cmp d.desc l r → is_eq o ≡ false → keys_cmp (d ∷ ds) xs ys ≡ o
+both_tell d ds (text s ∷ xs) (text t ∷ ys) l r o left right some others e differs =
+    let named : o ≡ cond d.desc (nat_cmp (front_of t) (front_of s)) (nat_cmp (front_of s) (front_of t)) = e ∙ ap₂ (front_cmp d.desc) left right in
+    first_of d ds (text s ∷ xs) (text t ∷ ys) o
+    (first_tells d.desc d.nulls_first (text s) (text t) (front_of s) (front_of t) o s t refl refl refl refl some others named differs) differs
+both_tell d ds xs ys l r o left right some others e differs = untold (front_cmp d.desc l r) e differs
+  where
+    untold : (p : Ordering) → o ≡ p → is_eq o ≡ false → keys_cmp (d ∷ ds) xs ys ≡ o
+    untold p e f = ?
+
+pub fronts_tell : (os : List Direction) (d : Direction) (xs ys : List CellTree) (l r : Option ℕ) (o : Ordering) → 0 < length os → d ≡ get_or os 0 d
+    → l ≡ first_front xs → r ≡ first_front ys → AreBytes (first_bytes xs) → AreBytes (first_bytes ys) → o ≡ front_cmp d.desc l r → is_eq o ≡ false → keys_cmp os xs ys ≡ o
+fronts_tell [] d xs ys l r o h is left right some others e differs = absurd (omega (arith, h))
+fronts_tell (q ∷ qs) d xs ys l r o h is left right some others e differs =
+    subst (λ k. keys_cmp (k ∷ qs) xs ys ≡ o) is (both_tell d qs xs ys l r o left right some others e differs)
+
+-- nothing is told apart by no keys
+pub no_keys : (os : List Direction) (xs ys : List CellTree) → length os ≡ 0 → Equal ≡ keys_cmp os xs ys
+no_keys [] xs ys h = refl
+no_keys (d ∷ ds) xs ys h = absurd (omega (arith, h))

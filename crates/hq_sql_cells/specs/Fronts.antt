@@ -1,9 +1,9 @@
 -- Fronts of texts: numbers by whose order most texts are told apart.
-use Rattle.std.specs.Prelude.{◌≡◌, ℕ, zero, suc, ◌+◌, ◌*◌, List, [], ◌∷◌, Option, Some, None, cond, Bool}
+use Rattle.std.specs.Prelude.{◌≡◌, ◌<◌, ℕ, zero, suc, ◌+◌, ◌*◌, slice_index_or, List, [], ◌∷◌, Option, Some, None, cond, Bool}
 use Rattle.std.specs.declared.cmp.Ordering.{Ordering}
 use Rattle.std.specs.declared.cmp.Ordering.TheVariants.{Equal}
 use Rattle.std.specs.Ordering.{nat_cmp}
-use Rattle.hq_base.specs.Cells.{CellTree, text}
+use Rattle.hq_base.specs.Cells.{CellTree, text, text_in}
 use Rattle.hq_base.specs.Aggregates.{first_cell}
 
 -- a number, and behind it so many bytes as its further digits of base 256; zeros stand behind a shorter text
@@ -16,9 +16,17 @@ digits (suc n) number (b ∷ bytes) = digits n (number * 256 + b) bytes
 abbrev pub front_of : List ℕ → ℕ
 front_of = digits 8 0
 
--- the first key is a text with this front
-abbrev pub IsFront : List CellTree → ℕ → Type 0
-IsFront keys front = (t : List ℕ) × (first_cell keys ≡ text t) × (front ≡ front_of t)
+abbrev pub AreBytes : List ℕ → Type 0
+AreBytes bs = (i : ℕ) → slice_index_or bs i 0 < 256
+
+-- the front of the first key, where that is a text
+abbrev pub first_front : List CellTree → Option ℕ
+first_front (text t ∷ keys) = Some (front_of t)
+first_front keys = None
+
+-- the bytes of the first key, where that is a text
+abbrev pub first_bytes : List CellTree → List ℕ
+first_bytes keys = text_in (first_cell keys)
 
 -- the order of two fronts as a sort key has it; none where one is no text
 abbrev pub front_cmp : (desc : Bool) → Option ℕ → Option ℕ → Ordering

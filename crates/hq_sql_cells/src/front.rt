@@ -1,6 +1,6 @@
 //! Fronts of texts: numbers by whose order most texts are told apart, without a look at them.
-ghost use Rattle.std.specs.Prelude.{◌≡◌, ◌<◌, map, IfSome, slice_index_or};
-ghost use Rattle.hq_sql_cells.specs.Fronts.{IsFront, front_cmp, front_of};
+ghost use Rattle.std.specs.Prelude.{◌≡◌, ◌<◌, map, slice_index_or};
+ghost use Rattle.hq_sql_cells.specs.Fronts.{AreBytes, first_bytes, first_front, front_cmp, front_of};
 ghost use Rattle.hq_sql_cells.specs.View.{cell_view};
 
 use crate::Cell;
@@ -30,7 +30,8 @@ fn front_of(bytes: &[u8]) -> u64
 
 /// The front of the first of these keys, where that is a text.
 pub(crate) fn first_front(keys: &[Cell<'_>]) -> Option<u64>
-    ensures { IfSome result (IsFront (map cell_view keys.now)) }
+    ensures front { result ≡ first_front (map cell_view keys.now) }
+    ensures bytes { AreBytes (first_bytes (map cell_view keys.now)) }
 {
     match keys.first() {
         Some(Cell::Text(text)) => Some(front_of(text.as_bytes())),

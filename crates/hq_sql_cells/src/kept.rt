@@ -3,8 +3,8 @@ ghost use Rattle.std.specs.Prelude.{◌≡◌, IfOk, map};
 ghost use Rattle.hq_base.specs.Lists.{firsts};
 ghost use Rattle.hq_sql_cells.specs.Keys.{same_group};
 
-use crate::seen::{SeenCell, seen_cells};
 use crate::Cell;
+use crate::seen::{SeenCell, seen_cells};
 use hq_base::Memory;
 use std::alloc::Global;
 use std::collections::BTreeSet;

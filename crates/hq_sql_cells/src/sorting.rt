@@ -1,8 +1,8 @@
 //! ORDER BY: rows beside the fronts of their first keys.
-ghost use Rattle.std.specs.Prelude.{◌≡◌, IfOk, IfSome, map};
+ghost use Rattle.std.specs.Prelude.{◌≡◌, IfOk, map};
 ghost use Rattle.std.specs.Ordering.{on};
 ghost use Rattle.hq_base.specs.Lists.{sort};
-ghost use Rattle.hq_sql_cells.specs.Fronts.{IsFront};
+ghost use Rattle.hq_sql_cells.specs.Fronts.{AreBytes, first_bytes, first_front};
 ghost use Rattle.hq_sql_cells.specs.Keys.{keys_cmp, keys_of};
 
 use crate::front::{first_front, front_cmp};
@@ -16,7 +16,8 @@ use std::cmp::Ordering;
 struct Fronted<'d, T> {
     front: Option<u64>,
     kept: Kept<'d, T>,
-    ghost is: { IfSome front (IsFront (keys_of kept)) },
+    ghost is: { front ≡ first_front (keys_of kept) },
+    ghost bytes: { AreBytes (first_bytes (keys_of kept)) },
 }
 
 fn with_fronts<'d, T: Drop>(
@@ -48,11 +49,7 @@ fn without_fronts<'d, T: Drop>(
 
 // The order of two rows: that of their fronts where these differ.
 #[tactic(auto, using(crate::proofs::Fronts::fronts_tell, crate::proofs::Fronts::no_keys))]
-fn fronted_cmp<T>(
-    order: &[Direction],
-    left: &Fronted<'_, T>,
-    right: &Fronted<'_, T>,
-) -> Ordering
+fn fronted_cmp<T>(order: &[Direction], left: &Fronted<'_, T>, right: &Fronted<'_, T>) -> Ordering
     ensures { result ≡ keys_cmp order.now (keys_of left.now.kept) (keys_of right.now.kept) }
 {
     let Some(direction) = order.first() else {
