@@ -1,12 +1,13 @@
 -- Texts whose fronts differ are ordered as these are.
 use Rattle.std.proofs.Common.{◌≡◌, ◌∙◌, ◌<◌, ◌≤◌, ◌+◌, ◌*◌, ◌-◌, ◌^◌, ℕ, zero, suc, List, [], ◌∷◌, length, drop, drop-cons, get_or, Bool, true, false, cond, Option, Some, None, Ordering, Less, Equal, Greater, is_eq, refl, sym, ap, ap₂, subst, add-one, arith}
-use Rattle.std.specs.Prelude.{IfSome}
+use Rattle.std.specs.Prelude.{unwrap_or}
+use Rattle.std.proofs.lemmas.Bool.{true≢false}
 use Rattle.std.specs.Cmp.Lexicographic.{slice_cmp}
 use Rattle.std.specs.Ordering.{nat_cmp, ordering_then, ordering_reverse}
 use Rattle.std.specs.Cmp.Lexicographic.{nat_list_cmp_total}
 use Rattle.std.proofs.lemmas.Cmp.{ranked}
 use Rattle.hq_base.specs.Aggregates.{first_cell}
-use Rattle.hq_base.specs.Cells.{CellTree, text, key_cmp}
+use Rattle.hq_base.specs.Cells.{CellTree, null, int, text, bool, json, key_cmp}
 use Rattle.hq_sql_cells.specs.Fronts.{AreBytes, digits, first_bytes, first_front, front_cmp, front_of}
 use Rattle.hq_sql_cells.specs.Keys.{keys_cmp, other_cells}
 use Rattle.hq_sql_cells.specs.declared.order.Direction.{Direction}
@@ -109,18 +110,32 @@ decided Greater p e = refl
 first_of : (d : Direction) (ds : List Direction) (xs ys : List CellTree) (o : Ordering) → key_cmp d.desc d.nulls_first (first_cell xs) (first_cell ys) ≡ o → is_eq o ≡ false → keys_cmp (d ∷ ds) xs ys ≡ o
 first_of d ds xs ys o e differs = ap (λ q. ordering_then q (keys_cmp ds (other_cells xs) (other_cells ys))) e ∙ decided o (keys_cmp ds (other_cells xs) (other_cells ys)) differs
 
--- what the fronts of two rows tell is the order of their keys
+-- a front is that of a text
+text_first : (xs : List CellTree) (x : ℕ) → Some x ≡ first_front xs → (first_cell xs ≡ text (first_bytes xs)) × (x ≡ front_of (first_bytes xs))
+text_first [] x e = cc
+text_first (null ∷ xs) x e = cc
+text_first (int n ∷ xs) x e = cc
+text_first (text t ∷ xs) x e = (refl, ap (λ o. unwrap_or o 0) e)
+text_first (bool b ∷ xs) x e = cc
+text_first (json j ∷ xs) x e = cc
+
+-- what is told is told by two fronts
+told : (desc : Bool) (l r : Option ℕ) (o : Ordering) → o ≡ front_cmp desc l r → is_eq o ≡ false → (x : ℕ) × (y : ℕ) × (l ≡ Some x) × (r ≡ Some y)
+told desc None r o e f = absurd (true≢false (sym (ap is_eq e) ∙ f))
+told desc (Some x) None o e f = absurd (true≢false (sym (ap is_eq e) ∙ f))
+told desc (Some x) (Some y) o e f = (x, y, refl, refl)
+
 both_tell : (d : Direction) (ds : List Direction) (xs ys : List CellTree) (l r : Option ℕ) (o : Ordering) → l ≡ first_front xs → r ≡ first_front ys
     → AreBytes (first_bytes xs) → AreBytes (first_bytes ys) → o ≡ front_cmp d.desc l r → is_eq o ≡ false → keys_cmp (d ∷ ds) xs ys ≡ o
-both_tell d ds (text s ∷ xs) (text t ∷ ys) l r o left right some others e differs =
-    let named : o ≡ cond d.desc (nat_cmp (front_of t) (front_of s)) (nat_cmp (front_of s) (front_of t)) = e ∙ ap₂ (front_cmp d.desc) left right in
-    first_of d ds (text s ∷ xs) (text t ∷ ys) o
-    (first_tells d.desc d.nulls_first (text s) (text t) (front_of s) (front_of t) o s t refl refl refl refl some others named differs) differs
-both_tell d ds xs ys l r o left right some others e differs = untold (front_cmp d.desc l r) e differs
-  where
-    untold : (p : Ordering) → o ≡ p → is_eq o ≡ false → keys_cmp (d ∷ ds) xs ys ≡ o
-    untold p e f = ?
+both_tell d ds xs ys l r o left right some others e differs =
+    let found = told d.desc l r o e differs in
+    let x = text_first xs found.0 (sym found.2 ∙ left) in
+    let y = text_first ys found.1 (sym found.3 ∙ right) in
+    let named : o ≡ cond d.desc (nat_cmp found.1 found.0) (nat_cmp found.0 found.1) = e ∙ ap₂ (front_cmp d.desc) found.2 found.3 in
+    first_of d ds xs ys o
+    (first_tells d.desc d.nulls_first (first_cell xs) (first_cell ys) found.0 found.1 o (first_bytes xs) (first_bytes ys) x.0 y.0 x.1 y.1 some others named differs) differs
 
+-- what the fronts of two rows tell is the order of their keys
 pub fronts_tell : (os : List Direction) (d : Direction) (xs ys : List CellTree) (l r : Option ℕ) (o : Ordering) → 0 < length os → d ≡ get_or os 0 d
     → l ≡ first_front xs → r ≡ first_front ys → AreBytes (first_bytes xs) → AreBytes (first_bytes ys) → o ≡ front_cmp d.desc l r → is_eq o ≡ false → keys_cmp os xs ys ≡ o
 fronts_tell [] d xs ys l r o h is left right some others e differs = absurd (omega (arith, h))
