@@ -28,30 +28,33 @@ digits_le zero a b ys h = h
 digits_le (suc n) a b [] h = digits_le n (a * 256) (b * 256) [] (omega (arith, h))
 digits_le (suc n) a b (d ∷ ds) h = digits_le n (a * 256) (b * 256 + d) ds (omega (arith, h))
 
+-- one digit more
+digit_step : (n a c d : ℕ) (cs ds : List ℕ) (o : Ordering) → nat_cmp c d ≡ o → AreBytes (d ∷ ds) → digits n (a * 256 + c) cs < digits n (a * 256 + d) ds
+    → (digits n (a * 256 + c) cs < digits n (a * 256 + c) ds → slice_cmp nat_cmp cs ds ≡ Less) → ordering_then (nat_cmp c d) (slice_cmp nat_cmp cs ds) ≡ Less
+digit_step n a c d cs ds Less e sy h more = rw e refl
+digit_step n a c d cs ds Equal e sy h more =
+    let same : c ≡ d = ranked c d Equal (sym e) in
+    rw e (more (subst (λ k. digits n (a * 256 + c) cs < digits n (a * 256 + k) ds) (sym same) h))
+digit_step n a c d cs ds Greater e sy h more =
+    let above : d < c = ranked c d Greater (sym e) in
+    let small : d < 256 = sy 0 in
+    let turned = digits_lt n (a * 256 + d) (a * 256 + c) ds cs (λ i. sy (suc i)) (omega (arith, above)) in
+    absurd (omega (arith, h, turned))
+
 -- texts of which one has the lesser front are so ordered
 lesser : (n a : ℕ) (xs ys : List ℕ) → AreBytes xs → AreBytes ys → digits n a xs < digits n a ys → slice_cmp nat_cmp xs ys ≡ Less
 lesser zero a xs ys sx sy h = absurd (omega (arith, h))
 lesser (suc n) a [] [] sx sy h = absurd (omega (arith, h))
 lesser (suc n) a [] (d ∷ ds) sx sy h = refl
 lesser (suc n) a (c ∷ cs) [] sx sy h = let least = digits_le n (a * 256) (a * 256 + c) cs (omega arith) in absurd (omega (arith, h, least))
-lesser (suc n) a (c ∷ cs) (d ∷ ds) sx sy h = by (nat_cmp c d) refl
-  where
-    by : (o : Ordering) → nat_cmp c d ≡ o → ordering_then (nat_cmp c d) (slice_cmp nat_cmp cs ds) ≡ Less
-    by Less e = rw e refl
-    by Equal e =
-        let same : c ≡ d = ranked c d Equal (sym e) in
-        let later : digits n (a * 256 + c) cs < digits n (a * 256 + c) ds = subst (λ k. digits n (a * 256 + c) cs < digits n (a * 256 + k) ds) (sym same) h in
-        rw e (lesser n (a * 256 + c) cs ds (λ i. sx (suc i)) (λ i. sy (suc i)) later)
-    by Greater e =
-        let above : d < c = ranked c d Greater (sym e) in
-        let turned = digits_lt n (a * 256 + d) (a * 256 + c) ds cs (λ i. sy (suc i)) (omega (arith, above)) in
-        absurd (omega (arith, h, turned))
+lesser (suc n) a (c ∷ cs) (d ∷ ds) sx sy h =
+    digit_step n a c d cs ds (nat_cmp c d) refl sy h (λ later. lesser n (a * 256 + c) cs ds (λ i. sx (suc i)) (λ i. sy (suc i)) later)
 
 -- so many digits more than none, taken one by one
 pub digit_more : (n number at : ℕ) (bytes : List ℕ) → digits (suc n) number (drop at bytes) ≡ digits n (number * 256 + get_or bytes at 0) (drop (at + 1) bytes)
 digit_more n number zero [] = let e : number * 256 ≡ number * 256 + 0 = omega arith in ap (λ k. digits n k []) e
 digit_more n number zero (b ∷ bytes) = refl
-digit_more n number (suc at) [] = digit_more n number zero []
+digit_more n number (suc at) [] = let e : number * 256 ≡ number * 256 + 0 = omega arith in ap (λ k. digits n k []) e
 digit_more n number (suc at) (b ∷ bytes) = let s : suc at + 1 ≡ suc (at + 1) = omega arith in rw s (digit_more n number at bytes)
 
 -- how large a number of so many digits may be
@@ -61,13 +64,13 @@ room (suc n) = room n * 256
 
 pub room_left : (n : ℕ) → n < 8 → room n * 256 ≤ 18446744073709551616
 room_left zero h = omega arith
-room_left 1 h = omega arith
-room_left 2 h = omega arith
-room_left 3 h = omega arith
-room_left 4 h = omega arith
-room_left 5 h = omega arith
-room_left 6 h = omega arith
-room_left 7 h = omega arith
+room_left (suc zero) h = omega arith
+room_left (suc (suc zero)) h = omega arith
+room_left (suc (suc (suc zero))) h = omega arith
+room_left (suc (suc (suc (suc zero)))) h = omega arith
+room_left (suc (suc (suc (suc (suc zero))))) h = omega arith
+room_left (suc (suc (suc (suc (suc (suc zero)))))) h = omega arith
+room_left (suc (suc (suc (suc (suc (suc (suc zero))))))) h = omega arith
 room_left (suc (suc (suc (suc (suc (suc (suc (suc n)))))))) h = absurd (omega (arith, h))
 
 -- ---- sort keys
