@@ -50,17 +50,29 @@ lesser (suc n) a (c ∷ cs) [] sx sy h = let least = digits_le n (a * 256) (a * 
 lesser (suc n) a (c ∷ cs) (d ∷ ds) sx sy h =
     digit_step n a c d cs ds (nat_cmp c d) refl sy h (λ later. lesser n (a * 256 + c) cs ds (λ i. sx (suc i)) (λ i. sy (suc i)) later)
 
--- so many digits more than none, taken one by one
+get_or_none : (at : ℕ) → get_or {A = ℕ} [] at zero ≡ zero
+get_or_none zero = refl
+get_or_none (suc at) = refl
+
+drop_none : {A : Type 0} (k : ℕ) → drop {A = A} k [] ≡ []
+drop_none zero = refl
+drop_none (suc k) = refl
+
+-- one digit more than so many, taken from the front
 pub digit_more : (n number at : ℕ) (bytes : List ℕ) → digits (suc n) number (drop at bytes) ≡ digits n (number * 256 + get_or bytes at 0) (drop (at + 1) bytes)
-digit_more n number zero [] = let e : number * 256 ≡ number * 256 + 0 = omega arith in ap (λ k. digits n k []) e
+digit_more n number at [] =
+    let e : number * 256 ≡ number * 256 + get_or {A = ℕ} [] at zero = omega (arith, get_or_none at) in
+    ap (digits (suc n) number) (drop_none at) ∙ ap (λ k. digits n k []) e ∙ ap (digits n (number * 256 + get_or {A = ℕ} [] at zero)) (sym (drop_none (at + 1)))
 digit_more n number zero (b ∷ bytes) = refl
-digit_more n number (suc at) [] = let e : number * 256 ≡ number * 256 + 0 = omega arith in ap (λ k. digits n k []) e
 digit_more n number (suc at) (b ∷ bytes) = let s : suc at + 1 ≡ suc (at + 1) = omega arith in rw s (digit_more n number at bytes)
 
 -- how large a number of so many digits may be
 abbrev pub room : ℕ → ℕ
 room zero = 1
 room (suc n) = room n * 256
+
+pub room_more : (n : ℕ) → room (n + 1) ≡ room n * 256
+room_more n = let s : n + 1 ≡ suc n = omega arith in ap room s
 
 pub room_left : (n : ℕ) → n < 8 → room n * 256 ≤ 18446744073709551616
 room_left zero h = omega arith

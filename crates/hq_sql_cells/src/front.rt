@@ -19,7 +19,8 @@ fn byte_at(bytes: &[u8], at: usize) -> u64
 
 // The first eight bytes of a text as one number.
 fn front_of(bytes: &[u8]) -> u64
-    ensures { result ≡ front_of bytes.now }
+    ensures front { result ≡ front_of bytes.now }
+    ensures bytes { AreBytes bytes.now }
 {
     let mut front = 0;
     for at in 0..8 {
