@@ -1,4 +1,4 @@
-use Rattle.std.proofs.Common.{rules, ◌≡◌, ◌==◌, ◌≤◌, ◌+◌, ◌<◌, ◌∷◌, [], Some, None, true, IfOk, option_map, map, length, ◌++◌, filter as kept_items, flat_map, take, drop, get_or, refl, subst, sym, ap, ap₂, ◌∙◌, arith}
+use Rattle.std.proofs.Common.{List, rules, ◌≡◌, ◌==◌, ◌≤◌, ◌+◌, ◌<◌, ◌∷◌, [], Some, None, true, IfOk, option_map, map, length, ◌++◌, filter as kept_items, flat_map, take, drop, get_or, refl, subst, sym, ap, ap₂, ◌∙◌, arith}
 use Rattle.std.proofs.lemmas.List.{map-append, length-map, take_all}
 use Rattle.std.proofs.lemmas.Option.{IfSome_then}
 use Rattle.std.proofs.lemmas.Result.{IfOk-weaker}
@@ -22,7 +22,7 @@ use Rattle.hq_sql_cells.proofs.Truths.{or3_assoc}
 use Rattle.hq_sql_tree.specs.Tree as tree
 use Rattle.hq_sql_tree.specs.Tree.{pairs_of, orders_of, joins_of, preds_of, rows}
 use Rattle.hq_sql_tree.specs.View.{agg_view, expr_view, pair_view, order_view, out_view, pred_view, select_view, from_view, join_view, filter_view}
-use Rattle.hq_sql_tree.specs.Meaning.{with_alias, truth_at, all_true, value, members, taken, orders_cmp, order_cmp, distinct_on, limited, offset_by, outputs, has_rows, kept, rows_of, joined, any_true}
+use Rattle.hq_sql_tree.specs.Meaning.{NamedRow, Scope as Names, with_alias, truth_at, all_true, value, members, taken, orders_cmp, order_cmp, distinct_on, limited, offset_by, outputs, has_rows, kept, rows_of, joined, any_true}
 use Rattle.hq_sql_access.specs.View.{made_view, named_view, first_row, source_view, row_in, row_view, joined_view, world_of, names_of, names_at, group_of, beside}
 use Rattle.hq_sql_access.specs.Joined.{join_in, joined_at}
 use Rattle.hq_sql_access.proofs.Besides.{beside_filled, weight_before}
@@ -438,7 +438,7 @@ pages::page-returns-in-Arranged t c =
     let D = map expr_view c.args.parts.distinct.now.items in
     let K = map order_view c.args.parts.order.now.items in
     let w = world_of c.args.world.now in
-    let keep = λ rows. kept_of js w (names_of c.args.scope.now c.args.world.now) c.args.alias.now (kept (filter_view c.args.parts.filter.now) w) rows in
+    let keep : List NamedRow → List Names = λ rows. kept_of js w (names_of c.args.scope.now c.args.world.now) c.args.alias.now (kept (filter_view c.args.parts.filter.now) w) rows in
     let finds : keep (rows_at c.args.source c.in-Arranged.at) ≡ arranged D K (keep (source_view c.args.source)) =
     rw c.in-Arranged.is at
     (left_finds w js c.args.scope.now c.args.alias.now c.args.parts c.args.source c.in_ok-looked.looked c.in_ok-left.left
@@ -451,7 +451,7 @@ pages::page-returns-in-Sorted t c =
     let D = map expr_view c.args.parts.distinct.now.items in
     let K = map order_view c.args.parts.order.now.items in
     let w = world_of c.args.world.now in
-    let keep = λ rows. kept_of js w (names_of c.args.scope.now c.args.world.now) c.args.alias.now (kept (filter_view c.args.parts.filter.now) w) rows in
+    let keep : List NamedRow → List Names = λ rows. kept_of js w (names_of c.args.scope.now c.args.world.now) c.args.alias.now (kept (filter_view c.args.parts.filter.now) w) rows in
     let finds : keep (rows_at c.args.source c.in-Sorted.at) ≡ arranged [] K (keep (source_view c.args.source)) =
     rw c.in-Sorted.is at
     (left_finds w js c.args.scope.now c.args.alias.now c.args.parts c.args.source c.in_ok-looked.looked c.in_ok-left.left
@@ -471,7 +471,7 @@ pages::page-returns-in-Some t c =
     let D = map expr_view c.args.parts.distinct.now.items in
     let K = map order_view c.args.parts.order.now.items in
     let w = world_of c.args.world.now in
-    let keep = λ rows. kept_of js w (names_of c.args.scope.now c.args.world.now) c.args.alias.now (kept (filter_view c.args.parts.filter.now) w) rows in
+    let keep : List NamedRow → List Names = λ rows. kept_of js w (names_of c.args.scope.now c.args.world.now) c.args.alias.now (kept (filter_view c.args.parts.filter.now) w) rows in
     let finds : keep (rows_at c.args.source c.in-Unsorted.at) ≡ keep (source_view c.args.source) =
     rw c.in-Unsorted.is at
     (left_finds w js c.args.scope.now c.args.alias.now c.args.parts c.args.source c.in_ok-looked.looked c.in_ok-left.left
