@@ -3,7 +3,7 @@
 use crate::cells::{cells, values};
 use hq_base::{Json, Val};
 use hq_cases_file::{Case, Stop, Words};
-use hq_sql_cells::{Direction, Kept, first_kept, paged, rows_of, sort_kept};
+use hq_sql_cells::{Direction, Kept, first_kept, paged, rows_of, sorted_kept};
 use std::alloc::Global;
 
 fn page_of(alloc: Global, offset: Option<u64>, limit: Option<u64>) -> Result<Vec<usize>, Stop> {
@@ -92,8 +92,7 @@ fn directions(alloc: Global, case: &Case) -> Result<Vec<Direction>, Stop> {
 }
 
 fn sorted(alloc: Global, order: &[Direction], values: &[Vec<Val>]) -> Result<Vec<usize>, Stop> {
-    let mut kept = kept(alloc, values)?;
-    sort_kept(order, &mut kept)?;
+    let kept = sorted_kept(alloc, order, kept(alloc, values)?)?;
     Ok(rows_of(alloc, kept)?)
 }
 

@@ -8,7 +8,7 @@ ghost use Rattle.hq_sql_tree.specs.Meaning.{taken};
 ghost use Rattle.hq_sql_access.specs.Keys.{directions_of, row_of, by_keys, distinct_kept};
 
 use hq_base::{Aggregate, Json, Memory};
-use hq_sql_cells::{Cell, Direction, Kept, aggregated, first_kept, rows_of, sort_kept};
+use hq_sql_cells::{Cell, Direction, Kept, aggregated, first_kept, rows_of, sorted_kept};
 use hq_sql_tree::{Agg, ExprList, OrderList};
 use std::alloc::Global;
 
@@ -53,9 +53,7 @@ fn by_keys<'d, T: Drop>(
     ensures { IfOk result (λ all. all.items ≡ sort (by_keys (map order_view order.now.items)) kept.entry.items) }
 {
     let directions = directions(alloc, order)?;
-    let mut all = kept;
-    sort_kept(&directions, &mut all)?;
-    Ok(all)
+    sorted_kept(alloc, &directions, kept)
 }
 
 /// The rows of kept ones, by their keys.

@@ -5,3 +5,4 @@ pub mod Fresh
 pub mod SeenGroups
 pub mod BestOnes
 pub mod Sums
+pub mod Fronts

@@ -3,3 +3,4 @@ pub mod Keys
 pub mod Seen
 pub mod Best
 pub mod Totals
+pub mod Fronts

@@ -1,11 +1,10 @@
 //! Rows that WHERE kept, beside their sort keys and their values of DISTINCT ON (PostgreSQL, SELECT).
-ghost use Rattle.std.specs.Prelude.{◌≡◌, IfOk, OnOk, map};
-ghost use Rattle.std.specs.Ordering.{on};
-ghost use Rattle.hq_base.specs.Lists.{sort, firsts};
-ghost use Rattle.hq_sql_cells.specs.Keys.{keys_cmp, keys_of, same_group};
+ghost use Rattle.std.specs.Prelude.{◌≡◌, IfOk, map};
+ghost use Rattle.hq_base.specs.Lists.{firsts};
+ghost use Rattle.hq_sql_cells.specs.Keys.{same_group};
 
+use crate::Cell;
 use crate::seen::{SeenCell, seen_cells};
-use crate::{Cell, Direction, keys_cmp};
 use hq_base::Memory;
 use std::alloc::Global;
 use std::collections::BTreeSet;
@@ -16,14 +15,6 @@ pub struct Kept<'d, T> {
     pub keys: Vec<Cell<'d>>,
     pub distinct: Vec<Cell<'d>>,
     pub row: T,
-}
-
-/// ORDER BY: sorts by the keys, in n log n comparisons. Rows whose keys are equal keep their order.
-pub fn sort_kept<'d, T>(order: &[Direction], rows: &mut Vec<Kept<'d, T>>) -> Result<(), Memory>
-    ensures { OnOk result (rows.new.items ≡ sort (on keys_of (keys_cmp order.now)) rows.old.items) }
-{
-    rows.sort_by(|left, right| keys_cmp(order, &left.keys, &right.keys))?;
-    Ok(())
 }
 
 /// The rows alone, in the same order.

@@ -24,7 +24,7 @@ use Rattle.hq_model.specs.declared.truth.Truth.TheVariants.{Yes}
 use Rattle.hq_model.specs.declared.table.Column.{Column}
 use Rattle.hq_sql_access.specs.Equations.{is_joined, key_cell}
 use Rattle.hq_sql_access.specs.Sources.{has_items}
-use Rattle.hq_sql_access.specs.View.{row_in, scope_of}
+use Rattle.hq_sql_access.specs.View.{row_in, scope_of, source_view}
 use Rattle.hq_sql_access.specs.declared.scope.Scope.{Scope}
 use Rattle.hq_sql_access.specs.declared.stages.Parts.{Parts}
 use Rattle.hq_sql_access.specs.declared.scope.Source.{Source}
@@ -36,7 +36,7 @@ use Rattle.hq_sql_tree.specs.Tree.{FilterTree, JoinTrees, PredTree}
 use Rattle.hq_sql_tree.specs.View.{filter_view}
 use Rattle.hq_sql_constants.specs.Listed.{AsksOneOf, is_one_of}
 use Rattle.hq_sql_constants.specs.Patterns.{AsksLike, is_like}
-use Rattle.hq_sql_constants.specs.Sifted.{AreConstants, IsLeft, KeepsSame, MarksAll, has_constant, places_looked, with_places}
+use Rattle.hq_sql_constants.specs.Sifted.{AreConstants, FindsOver, IsLeft, KeepsSame, MarksAll, as_looked, has_constant, places_looked, with_places}
 use Rattle.hq_sql_constants.specs.declared.marked.Constants.{Constants}
 use Rattle.hq_sql_scans.specs.Links.{has_cell}
 use Rattle.hq_sql_scans.specs.Ordered.{Finds}
@@ -93,7 +93,7 @@ one_key x v =
     equal_swapped (cell_of x) (cell_of v) ∙ equal_cell v (cell_of x) ∙ ap (has_cell (cell_of v)) (key_of_value x)
     ∙ sym (and_true (has_cell (cell_of v) (cell_of x))) ∙ sym (key_like (0 ∷ []) (cell_of x ∷ []) (v ∷ []) refl)
 
-any_same : {A : Type 0} (p q : A → Bool) (xs : List A) → ((x : A) → p x ≡ q x) → list_any p xs ≡ list_any q xs
+pub any_same : {A : Type 0} (p q : A → Bool) (xs : List A) → ((x : A) → p x ≡ q x) → list_any p xs ≡ list_any q xs
 any_same p q [] h = refl
 any_same p q (x ∷ xs) h = ap₂ (λ a b. a || b) (h x) (any_same p q xs h)
 
@@ -119,51 +119,51 @@ places_end q ps i places le so_far = so_far ∙ ap (filter q) (take_all i ps le)
 -- ---- what WHERE keeps
 
 -- places at whose rows a column is not as a condition asks it to be may be left out
-left_is : (columns : List Column) (rows : List Row) (js : JoinTrees) (alias name : List ℕ) (p : PredTree) (good : CellTree → Bool) (at : ℕ)
+left_is : (w : World) (columns : List Column) (rows : List Row) (js : JoinTrees) (alias name : List ℕ) (p : PredTree) (good : CellTree → Bool) (at : ℕ)
     (q : ℕ → Bool) (ps : List ℕ)
-    → ((w : World) (m : Names) → truth_at p w m ≡ Yes → good (cell_named (m alias) name) ≡ true)
+    → ((m : Names) → truth_at p w m ≡ Yes → good (cell_named (m alias) name) ≡ true)
     → position (λ c. bytes_eq c.name name) columns ≡ Some at → is_joined js alias ≡ false
     → ((k : ℕ) → q k ≡ false → good (cell_in (get_or rows k []) at) ≡ false)
-    → KeepsSame js alias (tree.filter p)
+    → KeepsSame w js alias (tree.filter p)
     (map (λ k. get_or (map (named_row columns) rows) k []) (filter q ps))
     (map (λ k. get_or (map (named_row columns) rows) k []) ps)
-left_is columns rows js alias name p good at q ps asked first alone bad =
+left_is w columns rows js alias name p good at q ps asked first alone bad =
     let f : ℕ → NamedRow = λ k. get_or (map (named_row columns) rows) k [] in
-    let never : (w : World) (n : Names) (k : ℕ) → q k ≡ false → (m : Names) → Keeps js (with_alias n alias (f k)) m → kept (tree.filter p) w m ≡ true → ⊥ =
-    λ w n k out m around e.
+    let never : (n : Names) (k : ℕ) → q k ≡ false → (m : Names) → Keeps js (with_alias n alias (f k)) m → kept (tree.filter p) w m ≡ true → ⊥ =
+    λ n k out m around e.
     let here : m alias ≡ named_row columns (get_or rows k []) = around alias alone ∙ (ap (λ b. cond b (f k) (n alias)) (same_bytes alias) ∙ sym (stored_row columns rows k)) in
     let cell : cell_named (m alias) name ≡ cell_in (get_or rows k []) at = ap (λ r. cell_named r name) here ∙ named_first columns (get_or rows k []) name at first in
-    let one = asked w m (is_yes (truth_at p w m) e) in
+    let one = asked m (is_yes (truth_at p w m) e) in
     false≢true (sym (bad k out) ∙ ap good (sym cell) ∙ one) in
-    let none : (w : World) (n : Names) (k : ℕ) → q k ≡ false → filter (kept (tree.filter p) w) (joined js w (with_alias n alias (f k))) ≡ [] =
-    λ w n k out. none_kept (kept (tree.filter p) w) (joined js w (with_alias n alias (f k)))
-    (each_weaken (Keeps js (with_alias n alias (f k))) (λ m. kept (tree.filter p) w m ≡ true → ⊥) (λ m around. never w n k out m around)
+    let none : (n : Names) (k : ℕ) → q k ≡ false → filter (kept (tree.filter p) w) (joined js w (with_alias n alias (f k))) ≡ [] =
+    λ n k out. none_kept (kept (tree.filter p) w) (joined js w (with_alias n alias (f k)))
+    (each_weaken (Keeps js (with_alias n alias (f k))) (λ m. kept (tree.filter p) w m ≡ true → ⊥) (λ m around. never n k out m around)
     (joined js w (with_alias n alias (f k))) (joined_keeps js w (with_alias n alias (f k))))
     in
-    record { same = λ w n. left_out js w n alias (kept (tree.filter p) w) f q (none w n) ps }
+    record { same = λ n. left_out js w n alias (kept (tree.filter p) w) f q (none n) ps }
 
 -- the same of rows that are lent
-left_at : (columns : List Column) (rows lent : List Row) (js : JoinTrees) (alias name : List ℕ) (p : PredTree) (good : CellTree → Bool)
+left_at : (w : World) (columns : List Column) (rows lent : List Row) (js : JoinTrees) (alias name : List ℕ) (p : PredTree) (good : CellTree → Bool)
     (at : ℕ) (q : ℕ → Bool) (ps places : List ℕ)
-    → lent ≡ rows → ((w : World) (m : Names) → truth_at p w m ≡ Yes → good (cell_named (m alias) name) ≡ true)
+    → lent ≡ rows → ((m : Names) → truth_at p w m ≡ Yes → good (cell_named (m alias) name) ≡ true)
     → position (λ c. bytes_eq c.name name) columns ≡ Some at → is_joined js alias ≡ false
     → ((k : ℕ) → q k ≡ false → good (cell_in (get_or rows k []) at) ≡ false)
     → places ≡ filter q ps
-    → KeepsSame js alias (tree.filter p) (map (λ k. get_or (map (named_row columns) lent) k []) places) (map (λ k. get_or (map (named_row columns) lent) k []) ps)
-left_at columns rows lent js alias name p good at q ps places same asked first alone bad chosen =
-    subst (λ rs. KeepsSame js alias (tree.filter p) (map (λ k. get_or (map (named_row columns) rs) k []) places) (map (λ k. get_or (map (named_row columns) rs) k []) ps)) (sym same)
-    (subst (λ qs. KeepsSame js alias (tree.filter p) (map (λ k. get_or (map (named_row columns) rows) k []) qs) (map (λ k. get_or (map (named_row columns) rows) k []) ps)) (sym chosen)
-    (left_is columns rows js alias name p good at q ps asked first alone bad))
+    → KeepsSame w js alias (tree.filter p) (map (λ k. get_or (map (named_row columns) lent) k []) places) (map (λ k. get_or (map (named_row columns) lent) k []) ps)
+left_at w columns rows lent js alias name p good at q ps places same asked first alone bad chosen =
+    subst (λ rs. KeepsSame w js alias (tree.filter p) (map (λ k. get_or (map (named_row columns) rs) k []) places) (map (λ k. get_or (map (named_row columns) rs) k []) ps)) (sym same)
+    (subst (λ qs. KeepsSame w js alias (tree.filter p) (map (λ k. get_or (map (named_row columns) rows) k []) qs) (map (λ k. get_or (map (named_row columns) rows) k []) ps)) (sym chosen)
+    (left_is w columns rows js alias name p good at q ps asked first alone bad))
 
 -- places at whose rows a column is none of the constants that a condition asks it to be may be left out
-pub sifted_at : (columns : List Column) (rows lent : List Row) (js : JoinTrees) (alias name : List ℕ) (p : PredTree) (vs : List Val)
+pub sifted_at : (w : World) (columns : List Column) (rows lent : List Row) (js : JoinTrees) (alias name : List ℕ) (p : PredTree) (vs : List Val)
     (at : ℕ) (s : Constants) (ps places : List ℕ)
-    → lent ≡ rows → AsksOneOf p alias name vs → position (λ c. bytes_eq c.name name) columns ≡ Some at → AreConstants vs s
+    → lent ≡ rows → AsksOneOf w p alias name vs → position (λ c. bytes_eq c.name name) columns ≡ Some at → AreConstants vs s
     → is_joined js alias ≡ false
     → places ≡ filter (λ k. has_constant s (cell_in (get_or rows k []) at)) ps
-    → KeepsSame js alias (tree.filter p) (map (λ q. get_or (map (named_row columns) lent) q []) places) (map (λ q. get_or (map (named_row columns) lent) q []) ps)
-sifted_at columns rows lent js alias name p vs at s ps places same asked first are alone chosen =
-    left_at columns rows lent js alias name p (is_one_of vs) at (λ k. has_constant s (cell_in (get_or rows k []) at)) ps places same asked.asks first alone
+    → KeepsSame w js alias (tree.filter p) (map (λ q. get_or (map (named_row columns) lent) q []) places) (map (λ q. get_or (map (named_row columns) lent) q []) ps)
+sifted_at w columns rows lent js alias name p vs at s ps places same asked first are alone chosen =
+    left_at w columns rows lent js alias name p (is_one_of vs) at (λ k. has_constant s (cell_in (get_or rows k []) at)) ps places same asked.asks first alone
     (λ k out. has_one vs s (get_or (get_or rows k []) at val.Null) are ∙ out) chosen
 
 -- ---- marks
@@ -192,54 +192,55 @@ unmarked rows at vs marks k all out =
     (cases_lt k (length rows))
 
 -- places of rows that are not marked may be left out
-pub marked_at : (columns : List Column) (rows lent : List Row) (js : JoinTrees) (alias name : List ℕ) (p : PredTree) (vs : List Val)
+pub marked_at : (w : World) (columns : List Column) (rows lent : List Row) (js : JoinTrees) (alias name : List ℕ) (p : PredTree) (vs : List Val)
     (at : ℕ) (own : List ℕ) (marks : List Bool) (ps places : List ℕ)
-    → lent ≡ rows → AsksOneOf p alias name vs → position (λ c. bytes_eq c.name name) columns ≡ Some at → is_joined js alias ≡ false
+    → lent ≡ rows → AsksOneOf w p alias name vs → position (λ c. bytes_eq c.name name) columns ≡ Some at → is_joined js alias ≡ false
     → own ≡ at ∷ [] → MarksAll rows own vs marks → places ≡ filter (λ k. get_or marks k false) ps
-    → KeepsSame js alias (tree.filter p) (map (λ q. get_or (map (named_row columns) lent) q []) places) (map (λ q. get_or (map (named_row columns) lent) q []) ps)
-marked_at columns rows lent js alias name p vs at own marks ps places same asked first alone over all chosen =
-    left_at columns rows lent js alias name p (is_one_of vs) at (λ k. get_or marks k false) ps places same asked.asks first alone
+    → KeepsSame w js alias (tree.filter p) (map (λ q. get_or (map (named_row columns) lent) q []) places) (map (λ q. get_or (map (named_row columns) lent) q []) ps)
+marked_at w columns rows lent js alias name p vs at own marks ps places same asked first alone over all chosen =
+    left_at w columns rows lent js alias name p (is_one_of vs) at (λ k. get_or marks k false) ps places same asked.asks first alone
     (λ k out. unmarked rows at vs marks k (subst (λ cs. MarksAll rows cs vs marks) over all) out) chosen
 
 -- ---- a pattern
 
 -- places at whose rows a column is not like the pattern that a condition asks it to be like may be left out
-pub likened_at : (columns : List Column) (rows lent : List Row) (js : JoinTrees) (alias name : List ℕ) (p : PredTree) (m : List ℕ × Bool)
+pub likened_at : (w : World) (columns : List Column) (rows lent : List Row) (js : JoinTrees) (alias name : List ℕ) (p : PredTree) (m : List ℕ × Bool)
     (at : ℕ) (ps places : List ℕ)
     → lent ≡ rows → AsksLike p alias name m → position (λ c. bytes_eq c.name name) columns ≡ Some at → is_joined js alias ≡ false
     → places ≡ filter (λ k. is_like m (cell_in (get_or rows k []) at)) ps
-    → KeepsSame js alias (tree.filter p) (map (λ q. get_or (map (named_row columns) lent) q []) places) (map (λ q. get_or (map (named_row columns) lent) q []) ps)
-likened_at columns rows lent js alias name p m at ps places same asked first alone chosen =
-    left_at columns rows lent js alias name p (is_like m) at (λ k. is_like m (cell_in (get_or rows k []) at)) ps places same asked.asks first alone
+    → KeepsSame w js alias (tree.filter p) (map (λ q. get_or (map (named_row columns) lent) q []) places) (map (λ q. get_or (map (named_row columns) lent) q []) ps)
+likened_at w columns rows lent js alias name p m at ps places same asked first alone chosen =
+    left_at w columns rows lent js alias name p (is_like m) at (λ k. is_like m (cell_in (get_or rows k []) at)) ps places same (asked.asks w) first alone
     (λ k out. out) chosen
 
--- what a scan finds at its places it finds at others of which WHERE keeps the same
-still_finds : (js : JoinTrees) (scope : Scope) (alias : List ℕ) (parts : Parts) (source : Source) (looked : Looked) (positions : Positions) → Finds js scope alias parts source looked
-    →
-    ((w : World)
-    → kept_of js w (scope_of scope w) alias (kept (filter_view parts.filter.now) w) (rows_at source positions)
-    ≡ kept_of js w (scope_of scope w) alias (kept (filter_view parts.filter.now) w) (rows_at source (places_looked looked)))
-    → Finds js scope alias parts source (with_places looked positions)
-still_finds js scope alias parts source (Arranged at) positions finds same = λ w. same w ∙ finds w
-still_finds js scope alias parts source (Sorted at) positions finds same = λ w. same w ∙ finds w
-still_finds js scope alias parts source (Unsorted at) positions finds same = λ w. same w ∙ finds w
+-- what a scan finds, it finds over these tables
+finds_over : (w : World) (js : JoinTrees) (scope : Scope) (alias : List ℕ) (parts : Parts) (source : Source) (looked : Looked)
+    → Finds js scope alias parts source looked → FindsOver w js scope alias parts source looked
+finds_over w js scope alias parts source (Arranged at) finds = finds w
+finds_over w js scope alias parts source (Sorted at) finds = finds w
+finds_over w js scope alias parts source (Unsorted at) finds = finds w
 
--- what a scan finds at its places it finds at those that are left
-pub left_finds : (js : JoinTrees) (scope : Scope) (alias : List ℕ) (parts : Parts) (source : Source) (looked : Looked)
+-- other places stand as those did
+stand_alike : (parts : Parts) (looked : Looked) (positions : Positions) (names : List Names) → as_looked parts (with_places looked positions) names ≡ as_looked parts looked names
+stand_alike parts (Arranged at) positions names = refl
+stand_alike parts (Sorted at) positions names = refl
+stand_alike parts (Unsorted at) positions names = refl
+
+-- what a scan finds at its places it finds over these tables at those that are left
+pub left_finds : (w : World) (js : JoinTrees) (scope : Scope) (alias : List ℕ) (parts : Parts) (source : Source) (looked : Looked)
     (left : Option (Vec ℕ)) (again : Looked)
     → Finds js scope alias parts source looked
     → IfSome left
-    (λ places. KeepsSame js alias (filter_view parts.filter.now) (map (row_in source) places.items)
+    (λ places. KeepsSame w js alias (filter_view parts.filter.now) (map (row_in source) places.items)
     (rows_at source (places_looked looked)))
-    → IsLeft looked left again → Finds js scope alias parts source again
-left_finds js scope alias parts source looked None again finds keeps is = subst (Finds js scope alias parts source) (sym is) finds
-left_finds js scope alias parts source looked (Some places) again finds keeps is =
-    let positions = places_looked again in
-    let same : (w : World)
-    → kept_of js w (scope_of scope w) alias (kept (filter_view parts.filter.now) w) (rows_at source positions)
-    ≡ kept_of js w (scope_of scope w) alias (kept (filter_view parts.filter.now) w) (rows_at source (places_looked looked)) =
-    λ w. ap (λ l. kept_of js w (scope_of scope w) alias (kept (filter_view parts.filter.now) w) (map (row_in source) l)) is.1 ∙ keeps.same w (scope_of scope w) in
-    subst (Finds js scope alias parts source) (sym is.0) (still_finds js scope alias parts source looked positions finds same)
+    → IsLeft looked left again → FindsOver w js scope alias parts source again
+left_finds w js scope alias parts source looked None again finds keeps is =
+    subst (FindsOver w js scope alias parts source) (sym is) (finds_over w js scope alias parts source looked finds)
+left_finds w js scope alias parts source looked (Some places) again finds keeps is =
+    let keep : List NamedRow → List Names = kept_of js w (scope_of scope w) alias (kept (filter_view parts.filter.now) w) in
+    let all = keep (source_view source) in
+    ap (λ l. keep (map (row_in source) l)) is.1 ∙ keeps.same (scope_of scope w) ∙ finds_over w js scope alias parts source looked finds
+    ∙ sym (stand_alike parts looked (places_looked again) all) ∙ ap (λ l. as_looked parts l all) (sym is.0)
 
 -- other places, which stand as those did, are left of them
 pub left_some : (looked again : Looked) (positions : Positions) (places : Vec ℕ) → again ≡ with_places looked positions

@@ -4,3 +4,4 @@ pub mod Likes
 pub mod Marks
 pub mod ColumnTests
 pub mod Sieving
+pub mod KeyValues

@@ -70,12 +70,12 @@ constants_more exprs i e values v m lt is h k =
     ap (map f) longer ∙ map-append f (take i exprs) (e ∷ []) ∙ ap₂ (λ xs x. xs ++ x ∷ []) h k ∙ sym (map-append cell_of values (v ∷ []))
 
 -- a test of a column asks it to be one of its constants
-pub test_asks : (own : ExprTree) (t : Test) (es : List Expr) (alias name : List ℕ) (vs : List Val) → IsOfOne t
+pub test_asks : (w : World) (own : ExprTree) (t : Test) (es : List Expr) (alias name : List ℕ) (vs : List Val) → IsOfOne t
     → is_column alias name own ≡ true → ((m : Names) → map (λ e. value (expr_view e) [] m) es ≡ map cell_of vs)
-    → AsksOneOf (tree.test own t (map expr_view es)) alias name vs
-test_asks own t es alias name vs one is known =
+    → AsksOneOf w (tree.test own t (map expr_view es)) alias name vs
+test_asks w own t es alias name vs one is known =
     record {
-      asks = λ w m holds.
+      asks = λ m holds.
           let c = value own [] m in
           let ds = map (λ e. value e [] m) (map expr_view es) in
           let same : ds ≡ map cell_of vs = map_map (λ e. value e [] m) expr_view es ∙ known m in
@@ -84,16 +84,16 @@ test_asks own t es alias name vs one is known =
     }
 
 -- the constants of a column that are handed on
-pub listed_asks : (p : PredTree) (alias name : List ℕ) (vs : List Val) (o : Option Listed) → AsksOneOf p alias name vs
-    → IfSome o (λ l. (l.name.now ≡ name) × (l.values.items ≡ vs)) → IfSome o (λ l. AsksOneOf p alias l.name.now l.values.items)
-listed_asks p alias name vs None asks h = h
-listed_asks p alias name vs (Some l) asks h = subst (λ n. AsksOneOf p alias n l.values.items) (sym h.0) (subst (AsksOneOf p alias name) (sym h.1) asks)
+pub listed_asks : (w : World) (p : PredTree) (alias name : List ℕ) (vs : List Val) (o : Option Listed) → AsksOneOf w p alias name vs
+    → IfSome o (λ l. (l.name.now ≡ name) × (l.values.items ≡ vs)) → IfSome o (λ l. AsksOneOf w p alias l.name.now l.values.items)
+listed_asks w p alias name vs None asks h = h
+listed_asks w p alias name vs (Some l) asks h = subst (λ n. AsksOneOf w p alias n l.values.items) (sym h.0) (subst (AsksOneOf w p alias name) (sym h.1) asks)
 
 -- ---- OR and AND
 
 -- an OR of nothing is never true
-pub asks_none : (alias name : List ℕ) → AsksOneOf (tree.any_of tree.no_pred) alias name []
-asks_none alias name = record { asks = λ w m holds. cc }
+pub asks_none : (w : World) (alias name : List ℕ) → AsksOneOf w (tree.any_of tree.no_pred) alias name []
+asks_none w alias name = record { asks = λ m holds. cc }
 
 either : (x y : Truth) (b c : Bool) → or3 x y ≡ Yes → (x ≡ Yes → b ≡ true) → (y ≡ Yes → c ≡ true) → (b || c) ≡ true
 either Yes y b c e f g = rw (f refl) refl
@@ -135,22 +135,22 @@ any_last [] p w m = or3_no (truth_at (pred_view p) w m)
 any_last (q ∷ qs) p w m = ap (or3 (truth_at (pred_view q) w m)) (any_last qs p w m) ∙ or3_assoc (truth_at (pred_view q) w m) (any_true (preds_of (map pred_view qs)) w m) (truth_at (pred_view p) w m)
 
 -- one member more
-pub asks_more : (ps : List Pred) (i : ℕ) (p : Pred) (alias name : List ℕ) (vs more : List Val) → i < length ps → p ≡ get_or ps i p
-    → AsksOneOf (tree.any_of (preds_of (map pred_view (take i ps)))) alias name vs → AsksOneOf (pred_view p) alias name more
-    → AsksOneOf (tree.any_of (preds_of (map pred_view (take (i + 1) ps)))) alias name (vs ++ more)
-asks_more ps i p alias name vs more lt is so_far one =
+pub asks_more : (w : World) (ps : List Pred) (i : ℕ) (p : Pred) (alias name : List ℕ) (vs more : List Val) → i < length ps → p ≡ get_or ps i p
+    → AsksOneOf w (tree.any_of (preds_of (map pred_view (take i ps)))) alias name vs → AsksOneOf w (pred_view p) alias name more
+    → AsksOneOf w (tree.any_of (preds_of (map pred_view (take (i + 1) ps)))) alias name (vs ++ more)
+asks_more w ps i p alias name vs more lt is so_far one =
     let longer : take (i + 1) ps ≡ take i ps ++ p ∷ [] = ap (λ n. take n ps) (add-one i) ∙ take-suc ps i p lt ∙ ap (λ d. take i ps ++ d ∷ []) (sym is) in
     record {
-      asks = λ w m holds.
+      asks = λ m holds.
           let c = cell_named (m alias) name in
           let both : or3 (any_true (preds_of (map pred_view (take i ps))) w m) (truth_at (pred_view p) w m) ≡ Yes =
           sym (any_last (take i ps) p w m) ∙ ap (λ l. any_true (preds_of (map pred_view l)) w m) (sym longer) ∙ holds in
           any_append (λ v. is_true (equal c (cell_of v))) vs more
           ∙ either (any_true (preds_of (map pred_view (take i ps))) w m) (truth_at (pred_view p) w m) (is_one_of vs c) (is_one_of more c)
-          both (so_far.asks w m) (one.asks w m);
+          both (so_far.asks m) (one.asks m);
     }
 
 -- what a member of an And asks, the And asks
-pub asks_member : (ps : List Pred) (i : ℕ) (p : Pred) (alias name : List ℕ) (vs : List Val) → i < length ps → p ≡ get_or ps i p
-    → AsksOneOf (pred_view p) alias name vs → AsksOneOf (tree.all_of (preds_of (map pred_view ps))) alias name vs
-asks_member ps i p alias name vs lt is one = record { asks = λ w m holds. one.asks w m (ap (λ q. truth_at (pred_view q) w m) is ∙ all_member ps i p w m lt holds) }
+pub asks_member : (w : World) (ps : List Pred) (i : ℕ) (p : Pred) (alias name : List ℕ) (vs : List Val) → i < length ps → p ≡ get_or ps i p
+    → AsksOneOf w (pred_view p) alias name vs → AsksOneOf w (tree.all_of (preds_of (map pred_view ps))) alias name vs
+asks_member w ps i p alias name vs lt is one = record { asks = λ m holds. one.asks m (ap (λ q. truth_at (pred_view q) w m) is ∙ all_member ps i p w m lt holds) }

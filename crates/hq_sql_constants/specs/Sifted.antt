@@ -9,16 +9,21 @@ use Rattle.hq_load_index.specs.Indexes.{IsOver, columns_of, rows_with}
 use Rattle.hq_load_index.specs.Keys.{has_key}
 use Rattle.hq_sql_tree.specs.Meaning.{NamedRow, Scope as Names, World, kept}
 use Rattle.hq_sql_tree.specs.Tree.{FilterTree, JoinTrees}
+use Rattle.hq_sql_tree.specs.View.{expr_view, filter_view, order_view}
 use Rattle.hq_sql_access.specs.Sources.{has_items}
+use Rattle.hq_sql_access.specs.View.{scope_of, source_view}
+use Rattle.hq_sql_access.specs.declared.scope.Scope.{Scope}
+use Rattle.hq_sql_access.specs.declared.scope.Source.{Source}
+use Rattle.hq_sql_access.specs.declared.stages.Parts.{Parts}
 use Rattle.hq_sql_constants.specs.declared.marked.Constants.{Constants}
-use Rattle.hq_sql_scans.specs.Positions.{kept_of, positions_of}
+use Rattle.hq_sql_scans.specs.Positions.{arranged, kept_of, positions_of, rows_at}
 use Rattle.hq_sql_scans.specs.declared.ordered.Looked.{Looked}
 use Rattle.hq_sql_scans.specs.declared.ordered.Looked.TheVariants.{Arranged, Sorted, Unsorted}
 use Rattle.hq_sql_scans.specs.declared.positions.Positions.{Positions}
 
--- WHERE keeps the same of these rows as of those, whatever is in scope
-pub record KeepsSame (js : JoinTrees) (alias : List ℕ) (f : FilterTree) (rows others : List NamedRow) : Type 0 where
-  pub same : (w : World) (n : Names) → kept_of js w n alias (kept f w) rows ≡ kept_of js w n alias (kept f w) others
+-- over these tables WHERE keeps the same of these rows as of those, whatever is in scope
+pub record KeepsSame (w : World) (js : JoinTrees) (alias : List ℕ) (f : FilterTree) (rows others : List NamedRow) : Type 0 where
+  pub same : (n : Names) → kept_of js w n alias (kept f w) rows ≡ kept_of js w n alias (kept f w) others
 
 -- these are the constants, each a row of one value
 pub record AreConstants (vs : List Val) (s : Constants) : Type 0 where
@@ -51,3 +56,15 @@ with_places (Unsorted at) positions = Unsorted positions
 abbrev pub IsLeft : Looked → Option (Vec ℕ) → Looked → Type 0
 IsLeft looked None again = again ≡ looked
 IsLeft looked (Some places) again = (again ≡ with_places looked (places_looked again)) × (positions_of (places_looked again) ≡ places.items)
+
+-- how places stand: as ORDER BY and DISTINCT ON leave them, as ORDER BY does, or in no order
+abbrev pub as_looked : Parts → Looked → List Names → List Names
+as_looked parts (Arranged at) names = arranged (map expr_view parts.distinct.now.items) (map order_view parts.order.now.items) names
+as_looked parts (Sorted at) names = arranged [] (map order_view parts.order.now.items) names
+as_looked parts (Unsorted at) names = names
+
+-- over these tables WHERE keeps at places all that it keeps, as they stand
+abbrev pub FindsOver : World → JoinTrees → Scope → (alias : List ℕ) → Parts → Source → Looked → Type 0
+FindsOver w js scope alias parts source looked =
+    kept_of js w (scope_of scope w) alias (kept (filter_view parts.filter.now) w) (rows_at source (places_looked looked))
+    ≡ as_looked parts looked (kept_of js w (scope_of scope w) alias (kept (filter_view parts.filter.now) w) (source_view source))

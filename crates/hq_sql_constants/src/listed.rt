@@ -2,14 +2,17 @@
 ghost use Rattle.std.specs.Prelude.{◌≡◌, ◌++◌, [], true, map, IfOk, IfSome};
 ghost use Rattle.hq_base.specs.Cells.{cell_of};
 ghost use Rattle.hq_sql_tree.specs.Meaning.{Scope as Names, value};
+ghost use Rattle.hq_sql_access.specs.View.{world_of};
 ghost use Rattle.hq_sql_tree.specs.Tree.{all_of, any_of, preds_of, test as tested};
 ghost use Rattle.hq_sql_tree.specs.View.{expr_view, pred_view};
 ghost use Rattle.hq_sql_constants.specs.Listed.{AsksOneOf, IsOfOne};
 
+use crate::keyed::{known_keys, linked_by};
 use crate::patterns::is_long;
 use hq_base::{Memory, Txt, Val};
 use hq_model::{Op, Test};
 use hq_sql_access::equations::is_column;
+use hq_sql_access::pinned::Pinned;
 use hq_sql_tree::{Expr, ExprList, Pred, PredList};
 use std::alloc::Global;
 
@@ -65,8 +68,9 @@ fn of_test(
     operands: &ExprList,
     alias: &Txt,
     name: &Txt,
+    world: &Pinned<'_>,
 ) -> Result<Option<Vec<Val>>, Memory>
-    ensures { IfOk result (λ found. IfSome found (λ vs. AsksOneOf (tested (expr_view own.now) test (map expr_view operands.now.items)) alias.now name.now vs.items)) }
+    ensures { IfOk result (λ found. IfSome found (λ vs. AsksOneOf (world_of world.now) (tested (expr_view own.now) test (map expr_view operands.now.items)) alias.now name.now vs.items)) }
 {
     if !is_of_one(test) {
         return Ok(None);
@@ -77,18 +81,24 @@ fn of_test(
     constants(alloc, operands.as_slice())
 }
 
-// The same of a condition that is a test.
-fn of_pred(alloc: Global, pred: &Pred, alias: &Txt, name: &Txt) -> Result<Option<Vec<Val>>, Memory>
-    ensures { IfOk result (λ found. IfSome found (λ vs. AsksOneOf (pred_view pred.now) alias.now name.now vs.items)) }
+// The same of a condition that is a test, or an EXISTS whose keys are known.
+fn of_pred(
+    alloc: Global,
+    pred: &Pred,
+    alias: &Txt,
+    name: &Txt,
+    world: &Pinned<'_>,
+) -> Result<Option<Vec<Val>>, Memory>
+    ensures { IfOk result (λ found. IfSome found (λ vs. AsksOneOf (world_of world.now) (pred_view pred.now) alias.now name.now vs.items)) }
 {
     match pred {
         Pred::Test {
             value,
             test,
             operands,
-        } => of_test(alloc, value, *test, operands, alias, name),
-        Pred::True | Pred::False | Pred::Not(_) | Pred::And(_) | Pred::Or(_) | Pred::Exists(_) =>
-            Ok(None),
+        } => of_test(alloc, value, *test, operands, alias, name, world),
+        Pred::Exists(_) => known_keys(alloc, pred, alias, name, world),
+        Pred::True | Pred::False | Pred::Not(_) | Pred::And(_) | Pred::Or(_) => Ok(None),
     }
 }
 
@@ -108,12 +118,13 @@ fn of_any(
     preds: &PredList,
     alias: &Txt,
     name: &Txt,
+    world: &Pinned<'_>,
 ) -> Result<Option<Vec<Val>>, Memory>
-    ensures { IfOk result (λ found. IfSome found (λ vs. AsksOneOf (any_of (preds_of (map pred_view preds.now.items))) alias.now name.now vs.items)) }
+    ensures { IfOk result (λ found. IfSome found (λ vs. AsksOneOf (world_of world.now) (any_of (preds_of (map pred_view preds.now.items))) alias.now name.now vs.items)) }
 {
     let mut values = Vec::new(alloc);
     for pred in preds {
-        match of_pred(alloc, pred, alias, name)? {
+        match of_pred(alloc, pred, alias, name, world)? {
             Some(more) => values = with_more(values, more)?,
             None => return Ok(None),
         }
@@ -121,11 +132,8 @@ fn of_any(
     Ok(Some(values))
 }
 
-/// The name of the column that a test is of.
-pub(crate) fn tested_name<'d>(pred: &'d Pred, alias: &Txt) -> Option<&'d Txt> {
-    let Pred::Test { value, .. } = pred else {
-        return None;
-    };
+// The name of a column of the alias.
+fn own_name<'d>(value: &'d Expr, alias: &Txt) -> Option<&'d Txt> {
     match value {
         Expr::Column {
             alias: named,
@@ -146,71 +154,124 @@ pub(crate) fn tested_name<'d>(pred: &'d Pred, alias: &Txt) -> Option<&'d Txt> {
     }
 }
 
-fn first_name<'d>(preds: &'d PredList, alias: &Txt) -> Option<&'d Txt> {
-    tested_name(preds.as_slice().first()?, alias)
+/// The name of the column that a test is of.
+pub(crate) fn tested_name<'d>(pred: &'d Pred, alias: &Txt) -> Option<&'d Txt> {
+    match pred {
+        Pred::Test { value, .. } => own_name(value, alias),
+        _ => None,
+    }
+}
+
+// The name of the column that a test is of, or that an EXISTS asks to equal one of the keys that are known of it.
+fn asked_name<'m>(pred: &'m Pred, alias: &Txt, world: &'m Pinned<'_>) -> Option<&'m Txt> {
+    match pred {
+        Pred::Exists(_) => own_name(linked_by(pred, world)?, alias),
+        _ => tested_name(pred, alias),
+    }
+}
+
+fn first_name<'m>(preds: &'m PredList, alias: &Txt, world: &'m Pinned<'_>) -> Option<&'m Txt> {
+    asked_name(preds.as_slice().first()?, alias, world)
 }
 
 // The column that an OR of tests asks to be one of constants, with these.
 #[tactic(auto, using(crate::proofs::Ones::listed_asks))]
-fn of_or<'d>(alloc: Global, preds: &'d PredList, alias: &Txt) -> Result<Option<Listed<'d>>, Memory>
-    ensures { IfOk result (λ found. IfSome found (λ l. AsksOneOf (any_of (preds_of (map pred_view preds.now.items))) alias.now l.name.now l.values.items)) }
+fn of_or<'m>(
+    alloc: Global,
+    preds: &'m PredList,
+    alias: &Txt,
+    world: &'m Pinned<'_>,
+) -> Result<Option<Listed<'m>>, Memory>
+    ensures { IfOk result (λ found. IfSome found (λ l. AsksOneOf (world_of world.now) (any_of (preds_of (map pred_view preds.now.items))) alias.now l.name.now l.values.items)) }
 {
-    let Some(name) = first_name(preds, alias) else {
+    let Some(name) = first_name(preds, alias, world) else {
         return Ok(None);
     };
-    match of_any(alloc, preds, alias, name)? {
-        Some(values) => Ok(listed_if(name, values)),
+    match of_any(alloc, preds, alias, name, world)? {
+        Some(values) => Ok(listed_if(name, values, least_of_any(preds))),
         None => Ok(None),
     }
 }
 
 // The same of a test.
 #[tactic(auto, using(crate::proofs::Ones::listed_asks))]
-fn of_alone<'d>(alloc: Global, pred: &'d Pred, alias: &Txt) -> Result<Option<Listed<'d>>, Memory>
-    ensures { IfOk result (λ found. IfSome found (λ l. AsksOneOf (pred_view pred.now) alias.now l.name.now l.values.items)) }
+fn of_alone<'m>(
+    alloc: Global,
+    pred: &'m Pred,
+    alias: &Txt,
+    world: &'m Pinned<'_>,
+) -> Result<Option<Listed<'m>>, Memory>
+    ensures { IfOk result (λ found. IfSome found (λ l. AsksOneOf (world_of world.now) (pred_view pred.now) alias.now l.name.now l.values.items)) }
 {
-    let Some(name) = tested_name(pred, alias) else {
+    let Some(name) = asked_name(pred, alias, world) else {
         return Ok(None);
     };
-    match of_pred(alloc, pred, alias, name)? {
-        Some(values) => Ok(listed_if(name, values)),
+    match of_pred(alloc, pred, alias, name, world)? {
+        Some(values) => Ok(listed_if(name, values, least_of(pred))),
         None => Ok(None),
     }
 }
 
 // The same of a test or an OR of tests.
-fn of_one<'d>(alloc: Global, pred: &'d Pred, alias: &Txt) -> Result<Option<Listed<'d>>, Memory>
-    ensures { IfOk result (λ found. IfSome found (λ l. AsksOneOf (pred_view pred.now) alias.now l.name.now l.values.items)) }
+fn of_one<'m>(
+    alloc: Global,
+    pred: &'m Pred,
+    alias: &Txt,
+    world: &'m Pinned<'_>,
+) -> Result<Option<Listed<'m>>, Memory>
+    ensures { IfOk result (λ found. IfSome found (λ l. AsksOneOf (world_of world.now) (pred_view pred.now) alias.now l.name.now l.values.items)) }
 {
     match pred {
-        Pred::Or(preds) => of_or(alloc, preds, alias),
+        Pred::Or(preds) => of_or(alloc, preds, alias, world),
         Pred::True
         | Pred::False
         | Pred::Test { .. }
         | Pred::Not(_)
         | Pred::And(_)
-        | Pred::Exists(_) => of_alone(alloc, pred, alias),
+        | Pred::Exists(_) => of_alone(alloc, pred, alias, world),
     }
 }
 
 // Fewer constants are not worth to be looked at before WHERE is tried.
 const FEW: usize = 8;
 
-/// Whether a condition has so many operands or conditions, or a long pattern.
-pub(crate) fn is_many(pred: &Pred) -> bool {
+// How many constants are worth to be looked at, and keys that are known.
+fn least_of(pred: &Pred) -> usize {
     match pred {
-        Pred::Test { test, operands, .. } => operands.len() >= FEW
-            || is_long(*test, operands.as_slice()),
-        Pred::Or(preds) => preds.len() >= FEW,
-        Pred::True | Pred::False | Pred::Not(_) | Pred::And(_) | Pred::Exists(_) => false,
+        Pred::Exists(_) => 0,
+        _ => FEW,
     }
 }
 
-// The column of this name with these constants, where they are many.
-fn listed_if<'d>(name: &'d Txt, values: Vec<Val>) -> Option<Listed<'d>>
+fn least_of_any(preds: &PredList) -> usize {
+    match preds.as_slice().first() {
+        Some(pred) => least_of(pred),
+        None => FEW,
+    }
+}
+
+/// Whether a condition has so many operands or conditions, or a long pattern, or its keys are known.
+pub(crate) fn is_many(pred: &Pred, world: &Pinned<'_>) -> bool {
+    match pred {
+        Pred::Test { test, operands, .. } => operands.len() >= FEW
+            || is_long(*test, operands.as_slice()),
+        Pred::Or(preds) => {
+            preds.len() >= FEW
+                || preds
+                    .as_slice()
+                    .iter()
+                    .all(|p| linked_by(p, world).is_some())
+        }
+        Pred::Exists(_) => linked_by(pred, world).is_some(),
+        Pred::True | Pred::False | Pred::Not(_) | Pred::And(_) => false,
+    }
+}
+
+// The column of this name with these constants, where they are worth it.
+fn listed_if<'d>(name: &'d Txt, values: Vec<Val>, least: usize) -> Option<Listed<'d>>
     ensures { IfSome result (λ l. (l.name.now ≡ name.now) × (l.values.items ≡ values.items)) }
 {
-    if values.len() < FEW {
+    if values.len() < least {
         return None;
     }
     Some(Listed { name, values })
@@ -218,15 +279,16 @@ fn listed_if<'d>(name: &'d Txt, values: Vec<Val>) -> Option<Listed<'d>>
 
 // The same of one of the members of an AND.
 #[tactic(auto, using(crate::proofs::Ones::asks_member))]
-fn of_member<'d>(
+fn of_member<'m>(
     alloc: Global,
-    preds: &'d PredList,
+    preds: &'m PredList,
     alias: &Txt,
-) -> Result<Option<Listed<'d>>, Memory>
-    ensures { IfOk result (λ found. IfSome found (λ l. AsksOneOf (all_of (preds_of (map pred_view preds.now.items))) alias.now l.name.now l.values.items)) }
+    world: &'m Pinned<'_>,
+) -> Result<Option<Listed<'m>>, Memory>
+    ensures { IfOk result (λ found. IfSome found (λ l. AsksOneOf (world_of world.now) (all_of (preds_of (map pred_view preds.now.items))) alias.now l.name.now l.values.items)) }
 {
     for pred in preds {
-        if let Some(listed) = of_one(alloc, pred, alias)? {
+        if let Some(listed) = of_one(alloc, pred, alias, world)? {
             return Ok(Some(listed));
         }
     }
@@ -234,20 +296,21 @@ fn of_member<'d>(
 }
 
 /// The column of an alias that a condition asks to be one of many constants, with these.
-pub(crate) fn listed_in<'d>(
+pub(crate) fn listed_in<'m>(
     alloc: Global,
-    pred: &'d Pred,
+    pred: &'m Pred,
     alias: &Txt,
-) -> Result<Option<Listed<'d>>, Memory>
-    ensures { IfOk result (λ found. IfSome found (λ l. AsksOneOf (pred_view pred.now) alias.now l.name.now l.values.items)) }
+    world: &'m Pinned<'_>,
+) -> Result<Option<Listed<'m>>, Memory>
+    ensures { IfOk result (λ found. IfSome found (λ l. AsksOneOf (world_of world.now) (pred_view pred.now) alias.now l.name.now l.values.items)) }
 {
     match pred {
-        Pred::And(preds) => of_member(alloc, preds, alias),
+        Pred::And(preds) => of_member(alloc, preds, alias, world),
         Pred::True
         | Pred::False
         | Pred::Test { .. }
         | Pred::Not(_)
         | Pred::Or(_)
-        | Pred::Exists(_) => of_one(alloc, pred, alias),
+        | Pred::Exists(_) => of_one(alloc, pred, alias, world),
     }
 }

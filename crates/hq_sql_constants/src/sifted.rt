@@ -7,7 +7,7 @@ ghost use Rattle.hq_sql_constants.specs.Patterns.{AsksLike};
 ghost use Rattle.hq_sql_constants.specs.Sifted.{IsLeft, KeepsSame, places_looked, with_places};
 ghost use Rattle.hq_sql_access.specs.Equations.{is_joined};
 ghost use Rattle.hq_sql_access.specs.Lent.{rows_lent};
-ghost use Rattle.hq_sql_access.specs.View.{row_in};
+ghost use Rattle.hq_sql_access.specs.View.{row_in, world_of};
 ghost use Rattle.hq_sql_access.specs.declared.scope.Source.TheVariants as source;
 ghost use Rattle.hq_sql_scans.specs.Positions.{rows_at};
 ghost use Rattle.hq_sql_tree.specs.Tree.{filter as filtered, joins_of};
@@ -21,6 +21,7 @@ use hq_load_index::Index;
 use hq_load_tables::Rows;
 use hq_model::ColId;
 use hq_sql_access::equations::{first_named, is_joined};
+use hq_sql_access::pinned::Pinned;
 use hq_sql_access::scope::Source;
 use hq_sql_access::stored::Stored;
 use hq_sql_scans::ordered::Looked;
@@ -44,13 +45,14 @@ fn sifted_each<'d>(
     pred: &Pred,
     asked: Listed<'_>,
     positions: Positions<'_>,
+    world: &Pinned<'_>,
 ) -> Result<Option<Vec<u32>>, Memory>
     requires joined { is_joined (joins_of (map join_view joins.now)) alias.now ≡ false }
     requires rows { rows_lent stored.now.rows ≡ rows.now }
-    requires asks { AsksOneOf (pred_view pred.now) alias.now asked.name.now asked.values.items }
+    requires asks { AsksOneOf (world_of world.now) (pred_view pred.now) alias.now asked.name.now asked.values.items }
     ensures { IfOk result
         (λ found. IfSome found
-        (λ places. KeepsSame (joins_of (map join_view joins.now)) alias.now (filtered (pred_view pred.now))
+        (λ places. KeepsSame (world_of world.now) (joins_of (map join_view joins.now)) alias.now (filtered (pred_view pred.now))
         (map (row_in (source.Stored stored.entry)) places.items) (rows_at (source.Stored stored.entry) positions.entry))) }
 {
     let Some(at) = first_named(stored.table.columns.as_slice(), asked.name) else {
@@ -76,15 +78,16 @@ fn sifted_by_index<'d>(
     pred: &Pred,
     asked: &Listed<'_>,
     positions: Positions<'_>,
+    world: &Pinned<'_>,
 ) -> Result<Vec<u32>, Memory>
     requires joined { is_joined (joins_of (map join_view joins.now)) alias.now ≡ false }
     requires rows { rows_lent stored.now.rows ≡ rows.now }
-    requires asks { AsksOneOf (pred_view pred.now) alias.now asked.now.name.now asked.now.values.items }
+    requires asks { AsksOneOf (world_of world.now) (pred_view pred.now) alias.now asked.now.name.now asked.now.values.items }
     requires first { position (λ c. bytes_eq c.name asked.now.name.now) stored.now.table.now.columns ≡ Some column }
     requires over { IsOver rows.now index.now }
     requires columns { columns_of index.now ≡ column ∷ [] }
     ensures { IfOk result
-        (λ places. KeepsSame (joins_of (map join_view joins.now)) alias.now (filtered (pred_view pred.now))
+        (λ places. KeepsSame (world_of world.now) (joins_of (map join_view joins.now)) alias.now (filtered (pred_view pred.now))
         (map (row_in (source.Stored stored.entry)) places.items) (rows_at (source.Stored stored.entry) positions.entry)) }
 {
     let values = asked.values.as_slice();
@@ -103,13 +106,14 @@ fn sifted_by<'d>(
     pred: &Pred,
     asked: Listed<'_>,
     positions: Positions<'_>,
+    world: &Pinned<'_>,
 ) -> Result<Option<Vec<u32>>, Memory>
     requires joined { is_joined (joins_of (map join_view joins.now)) alias.now ≡ false }
     requires rows { rows_lent stored.now.rows ≡ rows.now }
-    requires asks { AsksOneOf (pred_view pred.now) alias.now asked.name.now asked.values.items }
+    requires asks { AsksOneOf (world_of world.now) (pred_view pred.now) alias.now asked.name.now asked.values.items }
     ensures { IfOk result
         (λ found. IfSome found
-        (λ places. KeepsSame (joins_of (map join_view joins.now)) alias.now (filtered (pred_view pred.now))
+        (λ places. KeepsSame (world_of world.now) (joins_of (map join_view joins.now)) alias.now (filtered (pred_view pred.now))
         (map (row_in (source.Stored stored.entry)) places.items) (rows_at (source.Stored stored.entry) positions.entry))) }
 {
     let Some(at) = first_named(stored.table.columns.as_slice(), asked.name) else {
@@ -118,11 +122,13 @@ fn sifted_by<'d>(
     let column = ColId::new(at);
     if let Some(index) = index_over(rows, column) {
         let places = sifted_by_index(
-            alloc, stored, rows, index, column, alias, joins, pred, &asked, positions,
+            alloc, stored, rows, index, column, alias, joins, pred, &asked, positions, world,
         )?;
         return Ok(Some(places));
     }
-    sifted_each(alloc, stored, rows, alias, joins, pred, asked, positions)
+    sifted_each(
+        alloc, stored, rows, alias, joins, pred, asked, positions, world,
+    )
 }
 
 // Those of the places whose rows are like the pattern that a condition asks for.
@@ -135,13 +141,14 @@ fn sifted_like<'d>(
     pred: &Pred,
     asked: Likened<'_>,
     positions: Positions<'_>,
+    world: &Pinned<'_>,
 ) -> Result<Option<Vec<u32>>, Memory>
     requires joined { is_joined (joins_of (map join_view joins.now)) alias.now ≡ false }
     requires rows { rows_lent stored.now.rows ≡ rows.now }
     requires asks { AsksLike (pred_view pred.now) alias.now asked.name.now asked.matcher }
     ensures { IfOk result
         (λ found. IfSome found
-        (λ places. KeepsSame (joins_of (map join_view joins.now)) alias.now (filtered (pred_view pred.now))
+        (λ places. KeepsSame (world_of world.now) (joins_of (map join_view joins.now)) alias.now (filtered (pred_view pred.now))
         (map (row_in (source.Stored stored.entry)) places.items) (rows_at (source.Stored stored.entry) positions.entry))) }
 {
     let Some(at) = first_named(stored.table.columns.as_slice(), asked.name) else {
@@ -160,16 +167,19 @@ fn sifted_by_pattern<'d>(
     joins: &[Join],
     pred: &Pred,
     positions: Positions<'_>,
+    world: &Pinned<'_>,
 ) -> Result<Option<Vec<u32>>, Memory>
     requires joined { is_joined (joins_of (map join_view joins.now)) alias.now ≡ false }
     requires rows { rows_lent stored.now.rows ≡ rows.now }
     ensures { IfOk result
         (λ found. IfSome found
-        (λ places. KeepsSame (joins_of (map join_view joins.now)) alias.now (filtered (pred_view pred.now))
+        (λ places. KeepsSame (world_of world.now) (joins_of (map join_view joins.now)) alias.now (filtered (pred_view pred.now))
         (map (row_in (source.Stored stored.entry)) places.items) (rows_at (source.Stored stored.entry) positions.entry))) }
 {
     match likened_in(alloc, pred, alias)? {
-        Some(asked) => sifted_like(alloc, stored, rows, alias, joins, pred, asked, positions),
+        Some(asked) => sifted_like(
+            alloc, stored, rows, alias, joins, pred, asked, positions, world,
+        ),
         None => Ok(None),
     }
 }
@@ -182,19 +192,22 @@ fn sifted_rows<'d>(
     joins: &[Join],
     pred: &Pred,
     positions: Positions<'_>,
+    world: &Pinned<'_>,
 ) -> Result<Option<Vec<u32>>, Memory>
     requires { is_joined (joins_of (map join_view joins.now)) alias.now ≡ false }
     ensures { IfOk result
         (λ found. IfSome found
-        (λ places. KeepsSame (joins_of (map join_view joins.now)) alias.now (filtered (pred_view pred.now))
+        (λ places. KeepsSame (world_of world.now) (joins_of (map join_view joins.now)) alias.now (filtered (pred_view pred.now))
         (map (row_in (source.Stored stored.entry)) places.items) (rows_at (source.Stored stored.entry) positions.entry))) }
 {
     let Some(rows) = stored.rows else {
         return Ok(None);
     };
-    match listed_in(alloc, pred, alias)? {
-        Some(asked) => sifted_by(alloc, stored, rows, alias, joins, pred, asked, positions),
-        None => sifted_by_pattern(alloc, stored, rows, alias, joins, pred, positions),
+    match listed_in(alloc, pred, alias, world)? {
+        Some(asked) => sifted_by(
+            alloc, stored, rows, alias, joins, pred, asked, positions, world,
+        ),
+        None => sifted_by_pattern(alloc, stored, rows, alias, joins, pred, positions, world),
     }
 }
 
@@ -207,10 +220,11 @@ fn sifted<'s, 'd>(
     joins: &[Join],
     filter: &Option<Pred>,
     positions: Positions<'_>,
+    world: &Pinned<'_>,
 ) -> Result<Option<Vec<u32>>, Memory>
     ensures { IfOk result
         (λ found. IfSome found
-        (λ places. KeepsSame (joins_of (map join_view joins.now)) alias.now (filter_view filter.now)
+        (λ places. KeepsSame (world_of world.now) (joins_of (map join_view joins.now)) alias.now (filter_view filter.now)
         (map (row_in source.entry) places.items) (rows_at source.entry positions.entry))) }
 {
     let (Source::Stored(stored), Some(pred)) = (source, filter) else {
@@ -219,7 +233,7 @@ fn sifted<'s, 'd>(
     if number_of(positions) < FEW || is_joined(joins, alias) {
         return Ok(None);
     }
-    sifted_rows(alloc, stored, alias, joins, pred, positions)
+    sifted_rows(alloc, stored, alias, joins, pred, positions, world)
 }
 
 // The places at which a scan looks, however they stand.
@@ -242,13 +256,22 @@ pub fn left_of<'s, 'd>(
     joins: &[Join],
     filter: &Option<Pred>,
     looked: Looked<'_>,
+    world: &Pinned<'_>,
 ) -> Result<Option<Vec<u32>>, Memory>
     ensures { IfOk result
         (λ found. IfSome found
-        (λ places. KeepsSame (joins_of (map join_view joins.now)) alias.now (filter_view filter.now)
+        (λ places. KeepsSame (world_of world.now) (joins_of (map join_view joins.now)) alias.now (filter_view filter.now)
         (map (row_in source.entry) places.items) (rows_at source.entry (places_looked looked.entry)))) }
 {
-    sifted(alloc, source, alias, joins, filter, places_looked(looked))
+    sifted(
+        alloc,
+        source,
+        alias,
+        joins,
+        filter,
+        places_looked(looked),
+        world,
+    )
 }
 
 // Other places, which stand as those did.
@@ -272,11 +295,11 @@ pub fn with_left<'p>(looked: Looked<'p>, left: &'p Option<Vec<u32>>) -> Looked<'
     }
 }
 
-/// Whether a condition, or a part of an AND, has many operands or conditions.
-pub fn has_many(filter: &Option<Pred>) -> bool {
+/// Whether a condition, or a part of an AND, has many operands or conditions, or its keys are known.
+pub fn has_many(filter: &Option<Pred>, world: &Pinned<'_>) -> bool {
     match filter {
-        Some(Pred::And(preds)) => preds.as_slice().iter().any(is_many),
-        Some(pred) => is_many(pred),
+        Some(Pred::And(preds)) => preds.as_slice().iter().any(|p| is_many(p, world)),
+        Some(pred) => is_many(pred, world),
         None => false,
     }
 }

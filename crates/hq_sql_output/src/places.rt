@@ -105,7 +105,7 @@ pub fn found_rows<'s, 'd>(
     requires { placed.now.joins ≡ rows.now.joins }
     ensures { IfOk result (λ found. found_at found placed.now rows.now.parts.filter.now world.now scope.now ≡ page_at rows.now placed.now world.now scope.now) }
 {
-    if rows.limit.is_some() || rows.offset.is_some() || has_many(rows.parts.filter) {
+    if rows.limit.is_some() || rows.offset.is_some() || has_many(rows.parts.filter, world) {
         let places = places_of(alloc, rows, placed, world, scope)?;
         return Ok(Found::Places(places));
     }

@@ -89,7 +89,8 @@ pub fn known_row<'d>(
     }
 }
 
-fn cell_copy(alloc: Global, row: &[Val], column: ColId) -> Result<Val, Memory>
+/// The value of a row in a column, NULL where the row has none.
+pub fn cell_copy(alloc: Global, row: &[Val], column: ColId) -> Result<Val, Memory>
     ensures { IfOk result (λ value. value ≡ slice_index_or row.now column val.Null) }
 {
     match row.get(column.at()) {

@@ -1,4 +1,4 @@
-use Rattle.std.proofs.Common.{rules, ◌≡◌, ◌==◌, ◌≤◌, ◌+◌, ◌<◌, ◌∷◌, [], Some, None, true, IfOk, option_map, map, length, ◌++◌, filter as kept_items, flat_map, take, drop, get_or, refl, subst, sym, ap, ap₂, ◌∙◌, arith}
+use Rattle.std.proofs.Common.{List, rules, ◌≡◌, ◌==◌, ◌≤◌, ◌+◌, ◌<◌, ◌∷◌, [], Some, None, true, IfOk, option_map, map, length, ◌++◌, filter as kept_items, flat_map, take, drop, get_or, refl, subst, sym, ap, ap₂, ◌∙◌, arith}
 use Rattle.std.proofs.lemmas.List.{map-append, length-map, take_all}
 use Rattle.std.proofs.lemmas.Option.{IfSome_then}
 use Rattle.std.proofs.lemmas.Result.{IfOk-weaker}
@@ -22,14 +22,14 @@ use Rattle.hq_sql_cells.proofs.Truths.{or3_assoc}
 use Rattle.hq_sql_tree.specs.Tree as tree
 use Rattle.hq_sql_tree.specs.Tree.{pairs_of, orders_of, joins_of, preds_of, rows}
 use Rattle.hq_sql_tree.specs.View.{agg_view, expr_view, pair_view, order_view, out_view, pred_view, select_view, from_view, join_view, filter_view}
-use Rattle.hq_sql_tree.specs.Meaning.{with_alias, truth_at, all_true, value, members, taken, orders_cmp, order_cmp, distinct_on, limited, offset_by, outputs, has_rows, kept, rows_of, joined, any_true}
+use Rattle.hq_sql_tree.specs.Meaning.{NamedRow, Scope as Names, with_alias, truth_at, all_true, value, members, taken, orders_cmp, order_cmp, distinct_on, limited, offset_by, outputs, has_rows, kept, rows_of, joined, any_true}
 use Rattle.hq_sql_access.specs.View.{made_view, named_view, first_row, source_view, row_in, row_view, joined_view, world_of, names_of, names_at, group_of, beside}
 use Rattle.hq_sql_access.specs.Joined.{join_in, joined_at}
 use Rattle.hq_sql_access.proofs.Besides.{beside_filled, weight_before}
 use Rattle.hq_sql_select.specs.Gathered.{names_joined}
 use Rattle.hq_sql_access.specs.Keys.{with_json, json_at, outputs_of, output_at, key_values, member_at, with_cells, taken_at}
 use Rattle.hq_sql_access.specs.Sources.{alias_in, rows_given, has_items}
-use Rattle.hq_sql_scans.specs.Positions.{positions_of, rows_at, kept_of, FindsAll, FindsArranged}
+use Rattle.hq_sql_scans.specs.Positions.{positions_of, rows_at, kept_of, arranged}
 use Rattle.hq_sql_constants.proofs.Chosen.{left_finds}
 use Rattle.hq_sql_scans.proofs.InOrder.{none_arranged}
 use Rattle.hq_sql_scans.proofs.Looked.{at_place}
@@ -437,24 +437,26 @@ pages::page-returns-in-Arranged t c =
     let js = joins_of (map join_view c.args.joins.now) in
     let D = map expr_view c.args.parts.distinct.now.items in
     let K = map order_view c.args.parts.order.now.items in
-    let finds : FindsArranged js c.args.scope.now c.args.alias.now (filter_view c.args.parts.filter.now) D K c.args.source
-    (rows_at c.args.source c.in-Arranged.at) =
+    let w = world_of c.args.world.now in
+    let keep : List NamedRow → List Names = λ rows. kept_of js w (names_of c.args.scope.now c.args.world.now) c.args.alias.now (kept (filter_view c.args.parts.filter.now) w) rows in
+    let finds : keep (rows_at c.args.source c.in-Arranged.at) ≡ arranged D K (keep (source_view c.args.source)) =
     rw c.in-Arranged.is at
-    (left_finds js c.args.scope.now c.args.alias.now c.args.parts c.args.source c.in_ok-looked.looked c.in_ok-left.left
+    (left_finds w js c.args.scope.now c.args.alias.now c.args.parts c.args.source c.in_ok-looked.looked c.in_ok-left.left
     c.with_left-asked.result c.in_ok-looked.ensures c.in_ok-left.ensures c.with_left-asked.ensures) in
-    IfOk-weaker c.page_front.result _ _ (λ places h. h ∙ ap (λ l. limited c.args.limit (offset_by c.args.offset l)) (finds (world_of c.args.world.now))) c.page_front.ensures
+    IfOk-weaker c.page_front.result _ _ (λ places h. h ∙ ap (λ l. limited c.args.limit (offset_by c.args.offset l)) finds) c.page_front.ensures
 
 pub pages::page-returns-in-Sorted : goal.pages::page-returns-in-Sorted
 pages::page-returns-in-Sorted t c =
     let js = joins_of (map join_view c.args.joins.now) in
     let D = map expr_view c.args.parts.distinct.now.items in
     let K = map order_view c.args.parts.order.now.items in
-    let finds : FindsArranged js c.args.scope.now c.args.alias.now (filter_view c.args.parts.filter.now) [] K c.args.source
-    (rows_at c.args.source c.in-Sorted.at) =
+    let w = world_of c.args.world.now in
+    let keep : List NamedRow → List Names = λ rows. kept_of js w (names_of c.args.scope.now c.args.world.now) c.args.alias.now (kept (filter_view c.args.parts.filter.now) w) rows in
+    let finds : keep (rows_at c.args.source c.in-Sorted.at) ≡ arranged [] K (keep (source_view c.args.source)) =
     rw c.in-Sorted.is at
-    (left_finds js c.args.scope.now c.args.alias.now c.args.parts c.args.source c.in_ok-looked.looked c.in_ok-left.left
+    (left_finds w js c.args.scope.now c.args.alias.now c.args.parts c.args.source c.in_ok-looked.looked c.in_ok-left.left
     c.with_left-asked.result c.in_ok-looked.ensures c.in_ok-left.ensures c.with_left-asked.ensures) in
-    IfOk-weaker c.page_grouped.result _ _ (λ places h. h ∙ ap (λ l. limited c.args.limit (offset_by c.args.offset (distinct_on D l))) (finds (world_of c.args.world.now))) c.page_grouped.ensures
+    IfOk-weaker c.page_grouped.result _ _ (λ places h. h ∙ ap (λ l. limited c.args.limit (offset_by c.args.offset (distinct_on D l))) finds) c.page_grouped.ensures
 
 pub pages::in_groups-returns : goal.pages::in_groups-returns
 pages::in_groups-returns t c =
@@ -468,15 +470,16 @@ pages::page-returns-in-Some t c =
     let js = joins_of (map join_view c.args.joins.now) in
     let D = map expr_view c.args.parts.distinct.now.items in
     let K = map order_view c.args.parts.order.now.items in
-    let finds : FindsAll js c.args.scope.now c.args.alias.now (filter_view c.args.parts.filter.now) c.args.source
-    (rows_at c.args.source c.in-Unsorted.at) =
+    let w = world_of c.args.world.now in
+    let keep : List NamedRow → List Names = λ rows. kept_of js w (names_of c.args.scope.now c.args.world.now) c.args.alias.now (kept (filter_view c.args.parts.filter.now) w) rows in
+    let finds : keep (rows_at c.args.source c.in-Unsorted.at) ≡ keep (source_view c.args.source) =
     rw c.in-Unsorted.is at
-    (left_finds js c.args.scope.now c.args.alias.now c.args.parts c.args.source c.in_ok-looked.looked c.in_ok-left.left
+    (left_finds w js c.args.scope.now c.args.alias.now c.args.parts c.args.source c.in_ok-looked.looked c.in_ok-left.left
     c.with_left-asked.result c.in_ok-looked.ensures c.in_ok-left.ensures c.with_left-asked.ensures) in
     IfOk-weaker c.page_top.result _ _
     (λ places h. h
     ∙ ap (λ l. limited c.args.limit (offset_by c.args.offset (distinct_on D (sort (order_cmp K) l))))
-    (finds (world_of c.args.world.now)))
+    finds)
     c.page_top.ensures
 
 pub pages::page_front-returns : goal.pages::page_front-returns

@@ -2,7 +2,7 @@ use Rattle.std.proofs.Common.{map, IfSome, subst}
 use Rattle.std.specs.Prelude.{IfOk}
 use Rattle.hq_sql_tree.specs.Tree.{joins_of}
 use Rattle.hq_sql_tree.specs.View.{filter_view, join_view}
-use Rattle.hq_sql_access.specs.View.{row_in}
+use Rattle.hq_sql_access.specs.View.{row_in, world_of}
 use Rattle.hq_sql_scans.specs.Positions.{rows_at}
 use Rattle.hq_sql_scans.specs.declared.positions.Positions.{Positions}
 use Rattle.hq_sql_constants.specs.Sifted.{KeepsSame}
@@ -15,5 +15,5 @@ returns c =
     let source = c.args.source in
     subst
     (λ (p : Positions). IfOk c.sifted.result
-    (λ found. IfSome found (λ places. KeepsSame js c.args.alias.now f (map (row_in source) places.items) (rows_at source p))))
+    (λ found. IfSome found (λ places. KeepsSame (world_of c.args.world.now) js c.args.alias.now f (map (row_in source) places.items) (rows_at source p))))
     c.places_looked.ensures c.sifted.ensures

@@ -3,6 +3,7 @@ use Rattle.std.specs.List.{position}
 use Rattle.hq_load_index.specs.Keys.{cell_in}
 use Rattle.hq_model.specs.declared.table.Column.{Column}
 use Rattle.hq_sql_access.specs.Lent.{rows_lent}
+use Rattle.hq_sql_access.specs.View.{world_of}
 use Rattle.hq_sql_tree.specs.Tree.{joins_of}
 use Rattle.hq_sql_tree.specs.View.{join_view, pred_view}
 use Rattle.hq_sql_scans.specs.Positions.{positions_of}
@@ -22,6 +23,6 @@ returns c =
     ap (position (λ (k : Column). bytes_eq k.name name)) (sym c.as_slice.ensures) ∙ sym c.first_named.ensures ∙ c.in-Some.is in
     let chosen : c.in_ok-places.places.items ≡ filter (λ k. has_constant s (cell_in (get_or rows k []) c.in-Some.at)) ps =
     c.in_ok-places.ensures ∙ ap (λ at. filter (λ k. has_constant s (cell_in (get_or rows k []) at)) ps) c.new.ensures in
-    sifted_at columns rows (rows_lent stored.rows) (joins_of (map join_view c.args.joins.now)) c.args.alias.now name
+    sifted_at (world_of c.args.world.now) columns rows (rows_lent stored.rows) (joins_of (map join_view c.args.joins.now)) c.args.alias.now name
     (pred_view c.args.pred.now) c.args.asked.values.items c.in-Some.at s ps c.in_ok-places.places.items
     c.requires.rows c.requires.asks first c.in_ok-constants.ensures c.requires.joined chosen
