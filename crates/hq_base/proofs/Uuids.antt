@@ -1,11 +1,11 @@
 -- Texts that are read as a uuid, and the form that they are given.
-use Rattle.std.proofs.Common.{◌≡◌, ◌∙◌, ℕ, zero, suc, ◌+◌, ◌-◌, ◌<◌, Bool, true, false, cond, ◌&&◌, ◌||◌, ◌==◌, nat_lt, nat_le, ◌⊎◌, inl, inr, List, [], ◌∷◌, ◌++◌, length, Option, Some, None, refl, sym, ap, subst, arith, rules, eq-eqb}
+use Rattle.std.proofs.Common.{◌≡◌, ℕ, zero, suc, ◌+◌, ◌-◌, ◌<◌, Bool, true, false, cond, ◌&&◌, ◌==◌, nat_lt, nat_le, ◌⊎◌, inl, inr, List, [], ◌∷◌, length, Some, refl, sym, subst, arith, eq-eqb}
 use Rattle.std.specs.Char.{is_ascii_hexdigit, to_ascii_lowercase}
 use Rattle.std.specs.List.{list_all, enumerate_from}
 use Rattle.std.proofs.lemmas.Bool.{and_parts, eqb-true}
 use Rattle.std.proofs.lemmas.Bool.Decides.{nat_tests, eqb_tells}
 use Rattle.std.proofs.lemmas.Option.{cond_some}
-use Rattle.hq_base.specs.Uuids.{is_small_hex, is_hyphen_place, is_placed, is_uuid_form, is_digit_or_hyphen, are_groups, next_place, spells_from, spells_uuid, with_digit, form_from, uuid_form, within_braces}
+use Rattle.hq_base.specs.Uuids.{is_small_hex, is_hyphen_place, is_placed, is_uuid_form, is_digit_or_hyphen, are_groups, next_place, spells_from, spells_uuid, form_from, uuid_form, within_braces}
 
 -- a byte of what is read as a uuid is a hyphen, or a digit
 spelled_step : (at since c : ℕ) (cs : List ℕ) → spells_from at since (c ∷ cs) ≡ true

@@ -1,5 +1,5 @@
 //! The text of a uuid: its one form, and what is read as one.
-ghost use Rattle.std.specs.Prelude.{◌≡◌, ◌++◌, ◌∷◌, ◌<◌, [], true, length, OnOk, IfOk};
+ghost use Rattle.std.specs.Prelude.{◌≡◌, ◌++◌, ◌<◌, [], true, length, OnOk, IfOk};
 ghost use Rattle.std.specs.Char.{is_ascii_hexdigit};
 ghost use Rattle.std.specs.List.{list_all, enumerate_from};
 ghost use Rattle.hq_base.specs.Uuids.{are_groups, form_from, is_braced, is_digit_or_hyphen, is_hyphen_place, is_placed, is_small_hex, is_uuid_form, next_place, spells_from, spells_uuid, uuid_form, with_digit, within_braces};

@@ -1,5 +1,5 @@
 //! Escapes in strings.
-ghost use Rattle.std.specs.Prelude.{◌≡◌, ◌<◌, ◌^◌, ◌≤◌, length, IfSome, option_map, if◌then◌else◌, Some, None};
+ghost use Rattle.std.specs.Prelude.{◌≡◌, ◌<◌, ◌^◌, ◌≤◌, length, IfSome, if◌then◌else◌, Some, None};
 ghost use Rattle.std.specs.Char.{digit_value, is_digit};
 ghost use Rattle.hq_gql_lexer.specs.Escapes.{simple_escape, unit_at, unicode_escape, escape_at};
 

@@ -1,5 +1,3 @@
-ghost use Rattle.std.specs.Prelude.{◌≡◌};
-
 use thiserror::Error;
 
 /// Why tokens are no document. Each place is that of a byte in the query text, from 0.

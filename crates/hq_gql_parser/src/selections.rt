@@ -1,6 +1,5 @@
 //! Selections (GraphQL October 2021, 2.4, 2.5, 2.7, 2.8). `depth` is how many brackets may still open.
-ghost use Rattle.std.specs.Prelude.{◌≡◌, map, false};
-ghost use Rattle.std.specs.Option.{option_map};
+ghost use Rattle.std.specs.Prelude.{map, false};
 ghost use Rattle.hq_base.specs.Due.{Gives};
 ghost use Rattle.hq_gql_lexer.specs.declared.token.Punct.TheVariants.{CloseBrace};
 ghost use Rattle.hq_gql_tree.specs.Selections.{selection_view};

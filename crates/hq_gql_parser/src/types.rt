@@ -1,5 +1,4 @@
 //! Types of variables (GraphQL October 2021, 2.11).
-ghost use Rattle.std.specs.Prelude.{◌≡◌};
 ghost use Rattle.hq_base.specs.Due.{Gives};
 ghost use Rattle.hq_gql_tree.specs.Types.{type_view};
 ghost use Rattle.hq_gql_parser.specs.ParsingTypes.{named_type_at, nullable_with, non_null_type_at, type_at, list_type_at, list_type_with};

@@ -1,7 +1,7 @@
-ghost use Rattle.std.specs.Prelude.{◌≡◌, ◌≤◌, All, IfSome, length, map, option_copied};
+ghost use Rattle.std.specs.Prelude.{◌≡◌, All, length, map};
 ghost use Rattle.std.specs.Str.{bytes_eq};
 ghost use Rattle.httparse.specs.Spans.{IsHeaderWithin, header_bytes};
-ghost use Rattle.hq_http_request.specs.Requests.{refusal_of, length_refusal, value_of, is_number, before_question};
+ghost use Rattle.hq_http_request.specs.Requests.{is_number, before_question};
 ghost use Rattle.hq_http_request.specs.Holds.{place_of, BodyIs, Judged};
 
 use crate::Fault;

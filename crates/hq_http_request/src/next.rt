@@ -1,6 +1,6 @@
-ghost use Rattle.std.specs.Prelude.{◌≡◌, ◌≤◌, ◌-◌, All, length, map, take, min};
+ghost use Rattle.std.specs.Prelude.{◌≡◌, ◌-◌, length};
 ghost use Rattle.hq_http_request.specs.Holds.{Holds, window};
-ghost use Rattle.httparse.specs.Spans.{IsRequestWithin, IsRequestOf};
+ghost use Rattle.httparse.specs.Spans.{IsRequestWithin};
 ghost use Rattle.hq_http_request.specs.Reads.{Answers, IfWhole, SpansAre};
 
 use crate::fields::closes;

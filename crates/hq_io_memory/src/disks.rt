@@ -1,6 +1,6 @@
-ghost use Rattle.std.specs.Prelude.{◌≡◌, ◌↔◌, ◌⊎◌, ◌+◌, ◌-◌, ◌<◌, ◌≤◌, ◌++◌, [], length, take, drop, max, min, vec_len, vec_capacity, IfOk, IfSome, IsErr, is_err, OnErr, OnOk, Some};
+ghost use Rattle.std.specs.Prelude.{◌≡◌, ◌↔◌, ◌⊎◌, ◌+◌, ◌-◌, ◌<◌, ◌≤◌, ◌++◌, [], length, take, drop, max, min, vec_len, vec_capacity, IfOk, IsErr, is_err, OnErr, OnOk, Some};
 ghost use Rattle.std.specs.Io.{ReadsAtMost};
-ghost use Rattle.hq_io.specs.Causes.{HasCause, one_more};
+ghost use Rattle.hq_io.specs.Causes.{HasCause};
 ghost use Rattle.hq_io.specs.Disks.{Holds, HoldsAt};
 ghost use Rattle.hq_io_memory.specs.Calls.{calls_from, IsToFail, after};
 ghost use Rattle.hq_io_memory.specs.Contents.{Held};

@@ -1,10 +1,9 @@
 -- Characters as they are compared.
-use Rattle.std.proofs.Common.{◌≡◌, refl, ℕ, List, [], ◌∷◌, map, Bool, true, false, ◌∙◌, ap}
-use Rattle.std.specs.Str.{chars}
-use Rattle.hq_base.specs.Patterns.{meets, some_end, first_then, alike}
+use Rattle.std.proofs.Common.{◌≡◌, refl, ℕ, List, [], ◌∷◌, map, Bool, true, false}
+use Rattle.hq_base.specs.Patterns.{meets, some_end, alike}
 use Rattle.hq_base.specs.declared.pattern.Step.{Step}
 use Rattle.hq_base.specs.declared.pattern.Step.TheVariants.{Any, One, This}
-use Rattle.hq_like.specs.Reading.{read, read_letter}
+use Rattle.hq_like.specs.Reading.{read_letter}
 use Rattle.hq_like.specs.Signs.{lowered}
 
 -- two characters are alike where they are equal as they are compared

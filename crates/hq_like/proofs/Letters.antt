@@ -1,10 +1,9 @@
 -- Letters that a text begins with.
-use Rattle.std.proofs.Common.{◌≡◌, ◌∙◌, refl, sym, ap, subst, ℕ, zero, suc, ◌+◌, ◌<◌, ◌≤◌, List, [], ◌∷◌, ◌++◌, length, length-append, append_assoc, take, drop, get_or, map, Bool, true, false, ◌&&◌, ◌||◌, ◌==◌, eq-eqb, ◌⊎◌, ⊎_elim, inl, inr, arith}
+use Rattle.std.proofs.Common.{◌≡◌, ◌∙◌, refl, sym, ap, subst, ℕ, zero, suc, ◌+◌, ◌<◌, ◌≤◌, List, [], ◌∷◌, ◌++◌, length, append_assoc, take, drop, get_or, Bool, true, false, ◌&&◌, ◌==◌, eq-eqb, ◌⊎◌, ⊎_elim, inl, inr, arith}
 use Rattle.std.proofs.lemmas.Bool.{cases_lt}
 use Rattle.std.proofs.lemmas.List.{take_more, get_or_append_left}
 use Rattle.hq_base.specs.Patterns.{meets, some_end}
 use Rattle.hq_base.specs.declared.pattern.Step.{Step}
-use Rattle.hq_base.specs.declared.pattern.Step.TheVariants.{Any, One, This}
 use Rattle.hq_like.specs.Backs.{Reads, IsBack, AreBacks, letters_then, but_first}
 
 and_false : (b m : Bool) → m ≡ false → (b && m) ≡ false

@@ -1,5 +1,5 @@
 -- A pattern cut at its %.
-use Rattle.std.proofs.Common.{◌≡◌, ◌∙◌, refl, sym, ap, ℕ, List, [], ◌∷◌, ◌++◌, false, Option}
+use Rattle.std.proofs.Common.{◌≡◌, ◌∙◌, refl, ap, ℕ, List, [], ◌∷◌, ◌++◌, false, Option}
 use Rattle.std.specs.Option.{option_map_or}
 use Rattle.hq_base.specs.Patterns.{meets}
 use Rattle.hq_base.specs.declared.pattern.Step.{Step}

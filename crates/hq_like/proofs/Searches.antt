@@ -1,5 +1,5 @@
 -- Where a part of a pattern is first met in a text.
-use Rattle.std.proofs.Common.{◌≡◌, ◌≢◌, ◌∙◌, refl, sym, ap, ap₂, subst, ℕ, zero, suc, ◌+◌, ◌-◌, ◌<◌, ◌≤◌, List, [], ◌∷◌, ◌++◌, length, length-append, append_assoc, take, drop, map, Bool, true, false, ◌&&◌, ◌||◌, ◌==◌, if◌then◌else◌, Option, Some, None, eq-eqb, arith}
+use Rattle.std.proofs.Common.{◌≡◌, ◌≢◌, ◌∙◌, refl, sym, ap, subst, ℕ, zero, suc, ◌+◌, ◌-◌, ◌<◌, ◌≤◌, List, [], ◌∷◌, ◌++◌, length, length-append, append_assoc, take, drop, map, Bool, true, false, ◌&&◌, ◌||◌, ◌==◌, if◌then◌else◌, Option, Some, None, eq-eqb, arith}
 use Rattle.std.specs.Option.{option_map_or}
 use Rattle.std.specs.Str.{chars}
 use Rattle.std.proofs.lemmas.List.{length-map, drop-map}
@@ -9,8 +9,8 @@ use Rattle.hq_base.specs.Fronts.{Reach, misfit, up_to_any, front}
 use Rattle.hq_base.specs.declared.pattern.Step.{Step}
 use Rattle.hq_base.specs.declared.pattern.Step.TheVariants as step
 use Rattle.hq_base.proofs.Matching.{up_to_any_finds}
-use Rattle.hq_like.specs.Backs.{Reads, IsBack, letters_then, but_first}
-use Rattle.hq_like.specs.Places.{after_places, fits, place_view, places_view}
+use Rattle.hq_like.specs.Backs.{Reads, IsBack, letters_then}
+use Rattle.hq_like.specs.Places.{after_places, places_view}
 use Rattle.hq_like.specs.Segments.{tail_then}
 use Rattle.hq_like.specs.declared.places.Place.{Place}
 use Rattle.hq_like.specs.declared.places.Place.TheVariants.{One, This}

@@ -1,9 +1,8 @@
 -- What a pattern asks for of characters as they are compared.
-use Rattle.std.specs.Prelude.{◌≡◌, ℕ, List, [], ◌∷◌, ◌++◌, map, Bool, false, Option, Some, option_map}
+use Rattle.std.specs.Prelude.{◌≡◌, ℕ, List, [], ◌∷◌, ◌++◌, map, Bool, false, Option}
 use Rattle.std.specs.Global.{Vec}
 use Rattle.std.specs.Option.{option_map_or}
-use Rattle.std.specs.Str.{chars}
-use Rattle.hq_base.specs.Patterns.{steps_of, meets, like}
+use Rattle.hq_base.specs.Patterns.{meets, like}
 use Rattle.hq_base.specs.declared.pattern.Step.{Step}
 use Rattle.hq_base.specs.declared.pattern.Step.TheVariants as step
 use Rattle.hq_like.specs.Reading.{read, read_letter}

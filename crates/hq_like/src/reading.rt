@@ -1,5 +1,5 @@
 //! The characters of a text as they are compared.
-ghost use Rattle.std.specs.Prelude.{◌≡◌, ◌∷◌, ◌≤◌, [], drop, length, IfSome, MatchOption};
+ghost use Rattle.std.specs.Prelude.{◌≡◌, ◌∷◌, [], drop, length, MatchOption};
 ghost use Rattle.std.specs.Str.{chars};
 ghost use Rattle.hq_base.specs.Patterns.{is_empty};
 ghost use Rattle.hq_like.specs.Reading.{read, read_letter};

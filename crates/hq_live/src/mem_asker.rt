@@ -1,7 +1,7 @@
-ghost use Rattle.std.specs.Prelude.{◌≡◌, ◌≤◌, ◌↔◌, length, map, option_copied, find, ◌&&◌, bytes_eq, IfOk};
+ghost use Rattle.std.specs.Prelude.{◌≡◌, ◌≤◌, ◌↔◌, option_copied, find, ◌&&◌, bytes_eq, IfOk};
 ghost use Rattle.hq_io_memory.specs.Calls.{calls_from, IsToFail};
-ghost use Rattle.hq_live.specs.Asking.{GaveReply, Reloads, listed};
-ghost use Rattle.hq_live.specs.Memory.{due_over, next_over, reply_of, HasFailed, HasNotTaken};
+ghost use Rattle.hq_live.specs.Asking.{GaveReply, Reloads};
+ghost use Rattle.hq_live.specs.Memory.{due_over, next_over, HasFailed, HasNotTaken};
 
 use crate::{Asked, Asker, Reloaded};
 use hq_base::{Bytes, List, Memory, Txt};

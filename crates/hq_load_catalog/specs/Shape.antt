@@ -1,6 +1,6 @@
 -- The form of a catalog file, and what it writes: the members of each object in this order, and lists in order. The
 -- first node that is absent, of another kind or an unknown type is refused with its path.
-use Rattle.std.specs.Prelude.{ℕ, List, [], length, Bool, true, ◌==◌, Option, Some, None, option_and_then, Result, Ok, Err, if◌then◌else◌, bytes_eq, codes}
+use Rattle.std.specs.Prelude.{ℕ, List, [], length, Bool, true, ◌==◌, Option, Some, None, option_and_then, Result, Ok, Err, if◌then◌else◌}
 use Rattle.hq_base.specs.Due.{◌>>=◌}
 use Rattle.hq_base.specs.Json.{JsonTree}
 use Rattle.hq_base.specs.Look.{bool_in, str_in, array_in}

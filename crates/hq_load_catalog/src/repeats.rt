@@ -2,7 +2,7 @@ ghost use Rattle.std.specs.Prelude.{◌≡◌, ◌==◌, [], length, map, IfOk, 
 ghost use Rattle.std.specs.List.{find, list_any};
 ghost use Rattle.hq_base.specs.Due.{Gives};
 ghost use Rattle.hq_load_catalog.specs.Passed.{passed};
-ghost use Rattle.hq_load_catalog.specs.Repeats.{full_name, first_repeat, repeat_within, repeat_from, repeated, no_key};
+ghost use Rattle.hq_load_catalog.specs.Repeats.{full_name, first_repeat, repeat_within, repeated, no_key};
 
 use crate::CatalogRefusal;
 use crate::written::{NameList, WrittenTable};

@@ -1,4 +1,4 @@
-ghost use Rattle.std.specs.Prelude.{◌≡◌, ◌&&◌, map, slice_get, IfOk, option_copied, bytes_eq};
+ghost use Rattle.std.specs.Prelude.{◌≡◌, ◌&&◌, map, slice_get, IfOk, bytes_eq};
 ghost use Rattle.std.specs.List.{list_all, position, zip};
 ghost use Rattle.hq_base.specs.Due.{Gives};
 ghost use Rattle.hq_model.specs.Catalog.{can_pair, type_of};

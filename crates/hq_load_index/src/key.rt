@@ -1,6 +1,5 @@
 //! The cells of keys, and their order.
 ghost use Rattle.std.specs.Prelude.{◌≡◌, map};
-ghost use Rattle.std.specs.Cmp.Lexicographic.{slice_cmp};
 ghost use Rattle.hq_base.specs.Cells.{cell_of, cell_cmp, kind_of};
 ghost use Rattle.hq_model.specs.Logic.{null_test, order_between};
 ghost use Rattle.hq_load_index.specs.Keys.{cell_view, cell_in, key_in, keys_cmp, has_null};

@@ -1,11 +1,11 @@
-ghost use Rattle.std.specs.Prelude.{◌≡◌, ◌==◌, ◌&&◌, ◌∷◌, [], map, find, option_map, option_copied, slice_get, IfOk};
+ghost use Rattle.std.specs.Prelude.{◌≡◌, ◌==◌, ◌&&◌, ◌∷◌, [], map, find, option_map, option_copied, IfOk};
 ghost use Rattle.std.specs.List.{list_all};
 ghost use Rattle.hq_base.specs.Due.{Gives};
 ghost use Rattle.hq_base.specs.Json.{json_view, member_view};
 ghost use Rattle.hq_load_filter.specs.Each.{each_member};
-ghost use Rattle.hq_model.specs.Catalog.{can_pair, type_of};
+ghost use Rattle.hq_model.specs.Catalog.{can_pair};
 ghost use Rattle.hq_model.specs.Meta.{meta_view};
-ghost use Rattle.hq_load_meta.specs.Linked.{is_among, same_columns, just_one, pairs_of, foreign_of, own_key, remote_key, by_own_key, key_columns, by_remote_key, by_key, pair_due, pair_at, pairs_at, by_hand, link_at};
+ghost use Rattle.hq_load_meta.specs.Linked.{is_among, same_columns, just_one, pairs_of, foreign_of, own_key, remote_key, by_own_key, key_columns, by_remote_key, by_key, pair_at, pairs_at, by_hand, link_at};
 
 use crate::link::Link;
 use hq_base::{Json, List, Member, Memory, Txt};

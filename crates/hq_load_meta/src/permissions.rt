@@ -14,7 +14,7 @@ ghost use Rattle.hq_load_meta_tables.specs.Each.{each, each_after};
 ghost use Rattle.hq_load_meta_tables.specs.Node.{at};
 ghost use Rattle.hq_load_meta_tables.specs.Refused.{refused};
 ghost use Rattle.hq_load_meta.specs.Sound.{Shallow, Sound, AllSound, TablesSound};
-ghost use Rattle.hq_load_meta.specs.Permitted.{role_due, all_columns, chosen, star, columns_at, whole_limit, limit_due, aggregations_due, absent, permission_at, perm_at, perms_at, with_perms, permitted};
+ghost use Rattle.hq_load_meta.specs.Permitted.{role_due, all_columns, chosen, star, columns_at, limit_due, aggregations_due, absent, permission_at, perm_at, perms_at, with_perms, permitted};
 ghost use Rattle.hq_load_meta.specs.Linked.{is_among};
 
 use hq_base::{Json, List, Memory, Txt, item_path};

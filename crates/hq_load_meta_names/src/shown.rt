@@ -1,4 +1,4 @@
-ghost use Rattle.std.specs.Prelude.{◌≡◌, ◌==◌, [], map, filter, option_map, slice_index_or, IfOk};
+ghost use Rattle.std.specs.Prelude.{◌≡◌, ◌==◌, [], map, filter, slice_index_or, IfOk};
 ghost use Rattle.hq_base.specs.Aggregates.{all_aggregates};
 ghost use Rattle.std.specs.List.{list_any, list_all};
 ghost use Rattle.hq_model.specs.Meta.{meta_view, tracked_view, tracked_table};

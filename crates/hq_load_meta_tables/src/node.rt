@@ -1,8 +1,7 @@
-ghost use Rattle.std.specs.Prelude.{◌≡◌, map, option_map, option_copied, IfOk};
+ghost use Rattle.std.specs.Prelude.{◌≡◌, map, option_map, IfOk};
 ghost use Rattle.hq_base.specs.Due.{Gives};
 ghost use Rattle.hq_base.specs.Json.{json_view};
 ghost use Rattle.hq_base.specs.Path.{member_path};
-ghost use Rattle.hq_load_meta_tables.specs.Field.{field_name};
 ghost use Rattle.hq_load_meta_tables.specs.Node.{at, object_at, text_at, list_at, free_name_at, member_at, text_member, list_member, object_member, entries_member, unless_null, named_value, given_value, given_object};
 
 use crate::MetaRefusal;

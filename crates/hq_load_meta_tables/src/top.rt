@@ -1,4 +1,4 @@
-ghost use Rattle.std.specs.Prelude.{◌≡◌, map, option_map, option_copied, IfOk};
+ghost use Rattle.std.specs.Prelude.{◌≡◌, map, option_map, IfOk};
 ghost use Rattle.hq_base.specs.Due.{Gives, and_then};
 ghost use Rattle.hq_base.specs.Json.{json_view};
 ghost use Rattle.hq_base.specs.Path.{top_path};

@@ -1,5 +1,5 @@
 //! One page: out of the cache, or off the disk into it.
-ghost use Rattle.std.specs.Prelude.{◌≡◌, ◌⊎◌, ◌≤◌, ◌<◌, ◌^◌, true, false, cond, length, nat_eq, option_map, IfOk, OnOk, OnErr, IsErrOf, MatchOption, None, Some, is_some};
+ghost use Rattle.std.specs.Prelude.{◌≡◌, ◌≤◌, ◌<◌, ◌^◌, true, false, cond, length, nat_eq, option_map, IfOk, OnOk, OnErr, IsErrOf, None, Some, is_some};
 ghost use Rattle.std.specs.List.{list_any};
 ghost use Rattle.std.specs.Map.{lookup, keys_of};
 ghost use Rattle.lru.specs.LruCache.{lru_cache, promoted};

@@ -1,5 +1,5 @@
 //! A page of a disk, both ways.
-ghost use Rattle.std.specs.Prelude.{◌≡◌, ◌≤◌, ◌++◌, length, IfOk, OnOk, MatchOption, None, Some, nat_eq};
+ghost use Rattle.std.specs.Prelude.{◌≡◌, ◌++◌, length, IfOk, OnOk, MatchOption, None, Some, nat_eq};
 ghost use Rattle.std.specs.List.{list_all};
 ghost use Rattle.hq_load_pages.specs.Pages.{header_of, page_of, piece_of};
 

@@ -1,5 +1,5 @@
 //! The run of a table's rows.
-ghost use Rattle.std.specs.Prelude.{◌≡◌, ◌++◌, true, flat_map, length, IfOk, OnOk, Some};
+ghost use Rattle.std.specs.Prelude.{◌≡◌, true, flat_map, length, IfOk, OnOk, Some};
 ghost use Rattle.hq_base.specs.Lists.{Each};
 ghost use Rattle.hq_model.specs.Database.{are_rows};
 ghost use Rattle.hq_load_pages.specs.Cells.{ReadsBack};

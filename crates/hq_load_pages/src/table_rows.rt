@@ -5,7 +5,7 @@ ghost use Rattle.hq_io.specs.Causes.{Rose};
 ghost use Rattle.hq_model.specs.Database.{are_rows};
 ghost use Rattle.hq_load_pages.specs.Counts.{Rises};
 ghost use Rattle.hq_load_pages.specs.Directory.{reads_rows, rows_of_run, table_read};
-ghost use Rattle.hq_load_pages.specs.Held.{are_pieces, due_run, WhereTold};
+ghost use Rattle.hq_load_pages.specs.Held.{are_pieces, WhereTold};
 ghost use Rattle.hq_load_pages.specs.Touch.{missed_from, touched_from, TouchesSome};
 ghost use Rattle.hq_load_pages.specs.declared.cache.TouchRefusal.TheVariants as refusal;
 

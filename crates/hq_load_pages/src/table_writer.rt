@@ -1,5 +1,5 @@
 //! Writes the rows of tables, one table behind the other.
-ghost use Rattle.std.specs.Prelude.{◌≡◌, ◌≤◌, ◌<◌, ◌+◌, ◌-◌, ◌*◌, ◌^◌, ℕ, List, true, length, is_some, IfOk, OnOk, IsErrOf, Some};
+ghost use Rattle.std.specs.Prelude.{◌≡◌, ◌≤◌, ◌<◌, ◌+◌, ◌-◌, ◌*◌, ◌^◌, true, length, is_some, IfOk, OnOk, IsErrOf};
 ghost use Rattle.hq_io.specs.Causes.{Rose};
 ghost use Rattle.hq_model.specs.Database.{are_rows, is_database};
 ghost use Rattle.hq_load_pages.specs.Counts.{Rises};

@@ -1,6 +1,6 @@
 -- What is due of a file that may end inside a quoted field of its last record.
 use Rattle.std.proofs.Common.{◌≡◌, ℕ, List, true, false, Ok, Err, refl, ap, inl, inr}
-use Rattle.std.specs.Prelude.{◌⊎◌, Bool, Result}
+use Rattle.std.specs.Prelude.{Bool, Result}
 use Rattle.hq_base.specs.Due.{Gives}
 use Rattle.hq_model.specs.Database.{Row}
 use Rattle.hq_load_tables.specs.Unclosed.{closed_due, unclosed_due, unclosed_unless}

@@ -1,4 +1,4 @@
-ghost use Rattle.std.specs.Prelude.{◌≡◌, ◌-◌, ◌<◌, ◌≤◌, ◌||◌, ◌==◌, ◌↔◌, ℕ, true, false, Some, length, IsErr, IfErr, OnOk, OnErr};
+ghost use Rattle.std.specs.Prelude.{◌≡◌, ◌-◌, ◌<◌, ◌≤◌, ◌||◌, ◌==◌, ◌↔◌, ℕ, true, false, length, IsErr, IfErr, OnOk, OnErr};
 ghost use Rattle.hq_load_tables.specs.Store.{TellsRise};
 ghost use Rattle.hq_load_tables.specs.Flaky.{pins_to_failure};
 

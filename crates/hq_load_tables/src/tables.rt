@@ -1,4 +1,4 @@
-ghost use Rattle.std.specs.Prelude.{◌≡◌, ◌<◌, ◌≤◌, ◌||◌, ◌==◌, ℕ, List, [], Bool, true, false, Option, Some, length, slice_get, slice_index_or, OnOk, OnErr, IfErr, IfSome};
+ghost use Rattle.std.specs.Prelude.{◌≡◌, ◌<◌, ◌≤◌, ◌||◌, ◌==◌, ℕ, List, [], Bool, true, false, Option, length, slice_get, slice_index_or, OnOk, OnErr, IfErr, IfSome};
 ghost use Rattle.hq_model.specs.declared.table.Table.{Table};
 ghost use Rattle.hq_model.specs.Catalog.{is_catalog};
 ghost use Rattle.hq_model.specs.Database.{Row, are_rows, is_database};

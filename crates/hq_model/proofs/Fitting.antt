@@ -1,5 +1,5 @@
 -- What is read as a constant fits the column's type and the test.
-use Rattle.std.proofs.Common.{◌≡◌, ◌∙◌, refl, sym, ap, subst, ℕ, ℤ, List, Bool, true, false, cond, ◌&&◌, Option, Some, None, Result, Ok, Err}
+use Rattle.std.proofs.Common.{◌≡◌, ◌∙◌, refl, sym, ap, subst, ℕ, ℤ, List, Bool, true, false, cond, ◌&&◌, Option, Some, None, Ok, Err}
 use Rattle.std.specs.Prelude.{is_ok, ok_or, option_map}
 use Rattle.std.proofs.lemmas.Bool.{and_parts}
 use Rattle.std.proofs.lemmas.Option.{cond_some}
@@ -16,7 +16,7 @@ use Rattle.hq_base.specs.declared.value.Val.TheVariants as val
 use Rattle.hq_model.specs.Constants.{text_constant, truth_constant, constant_in}
 use Rattle.hq_model.specs.Database.{int_fits}
 use Rattle.hq_model.specs.Filters.{constant_fits, is_pattern}
-use Rattle.hq_model.specs.Reading.{is_whole_number, whole_number, truth_value, whole_read, truth_read, read_as, read_pattern}
+use Rattle.hq_model.specs.Reading.{is_whole_number, whole_number, truth_value, read_as, read_pattern}
 use Rattle.hq_model.specs.Tests.{applies}
 use Rattle.hq_model.specs.declared.test.Test.TheVariants.{Like}
 use Rattle.hq_model.specs.declared.want.Want.{Want}

@@ -1,13 +1,13 @@
 -- What a role may see of a table is there, where the metadata fits the catalog.
-use Rattle.std.proofs.Common.{◌≡◌, ℕ, suc, ◌+◌, ◌<◌, ◌≤◌, List, [], ◌∷◌, ◌++◌, length, filter, find, Bool, true, false, cond, ◌==◌, ◌&&◌, nat_lt, nat_le, Option, Some, None, is_some, refl, sym, ap, subst, ◌∙◌, arith}
+use Rattle.std.proofs.Common.{◌≡◌, ℕ, suc, ◌+◌, ◌<◌, ◌≤◌, List, [], ◌∷◌, ◌++◌, length, filter, find, Bool, true, false, cond, ◌==◌, Option, Some, None, is_some, refl, ap, subst, ◌∙◌, arith}
 use Rattle.std.specs.List.{list_any, list_all}
 use Rattle.std.specs.Prelude.{bytes_eq, option_map, option_and_then}
-use Rattle.std.proofs.lemmas.Bool.{and_parts, and_from, eqb-true, ltb-true, leb-true, false≢true}
+use Rattle.std.proofs.lemmas.Bool.{and_parts, and_from, eqb-true, ltb-true, leb-true}
 use Rattle.std.proofs.lemmas.Option.{slice_get-get_or}
 use Rattle.hq_base.specs.Lists.{Each}
 use Rattle.hq_base.proofs.Lists.{each_weaken, each_filter}
 use Rattle.hq_model.specs.Bexp.{BexpTree, always, bexps_of, depth}
-use Rattle.hq_model.specs.Filters.{column_ty, is_filter, are_filters}
+use Rattle.hq_model.specs.Filters.{is_filter, are_filters}
 use Rattle.hq_model.specs.Fits.{fits, fits_perm, fits_tracked}
 use Rattle.hq_model.specs.Laws.{HasColumn, IsLowFilter, IsMask, IsPermission, PermissionsFit}
 use Rattle.hq_model.specs.Meta.{MetaTree, TrackedTree, PermTree, tracked_table}

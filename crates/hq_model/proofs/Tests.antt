@@ -1,5 +1,5 @@
 -- Each test by its cases: what is read for it fits it, and when two tests are one.
-use Rattle.std.proofs.Common.{◌≡◌, refl, ap, ℕ, List, Bool, true, false, Option, Some, None, Result, Ok}
+use Rattle.std.proofs.Common.{◌≡◌, refl, ap, ℕ, List, Bool, true, false, Some, None, Ok}
 use Rattle.std.specs.Ordering.{bool_cmp, is_eq}
 use Rattle.hq_base.specs.Json.{JsonTree}
 use Rattle.hq_base.specs.Look.{str_in}

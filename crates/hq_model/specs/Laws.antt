@@ -1,5 +1,5 @@
 -- Laws of permissions.
-use Rattle.std.specs.Prelude.{◌≡◌, ℕ, suc, ◌≤◌, ◌<◌, List, length, true, Option, Some, is_some, is_ok}
+use Rattle.std.specs.Prelude.{◌≡◌, ℕ, suc, ◌≤◌, ◌<◌, List, length, true, Some, is_some, is_ok}
 use Rattle.hq_base.specs.Lists.{Each}
 use Rattle.hq_model.specs.Bexp.{BexpTree, depth}
 use Rattle.hq_model.specs.Binding.{bound, bound_masks}

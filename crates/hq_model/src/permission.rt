@@ -1,7 +1,7 @@
 ghost use Rattle.std.specs.Prelude.{◌≡◌, filter, find, option_copied, option_map, bytes_eq, IfOk, ◌==◌};
 ghost use Rattle.std.specs.List.{list_any};
 ghost use Rattle.hq_model.specs.Meta.{perm_view, tracked_view, meta_view, tracked_table};
-ghost use Rattle.hq_model.specs.Permission.{named_columns, with_columns, admin_permission, told_permission, own_permission, or_inherited, set_of, permission_in, permission};
+ghost use Rattle.hq_model.specs.Permission.{named_columns, admin_permission, told_permission, own_permission, or_inherited, set_of, permission_in, permission};
 ghost use Rattle.hq_model.specs.PermView.{permission_view};
 
 use crate::inherited::inherited_view;

@@ -1,4 +1,4 @@
-ghost use Rattle.std.specs.Prelude.{◌≡◌, map};
+ghost use Rattle.std.specs.Prelude.{map};
 ghost use Rattle.hq_base.specs.Due.{Gives};
 ghost use Rattle.hq_model.specs.Bexp.{bexp_view, bexps_of};
 ghost use Rattle.hq_model.specs.Binding.{bound, bound_all};

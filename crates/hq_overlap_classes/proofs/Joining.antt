@@ -1,5 +1,5 @@
 -- Sets of one class, and classes at fault.
-use Rattle.std.proofs.Common.{◌≡◌, ◌∙◌, ℕ, zero, suc, ◌+◌, ◌<◌, ◌≤◌, List, [], ◌∷◌, ◌++◌, length, get_or, set, map, Bool, true, false, cond, Option, Some, None, ◌⊎◌, inl, inr, sym, refl, ap, subst, arith}
+use Rattle.std.proofs.Common.{◌≡◌, ◌∙◌, ℕ, zero, suc, ◌+◌, List, [], ◌∷◌, ◌++◌, length, get_or, set, Bool, true, false, cond, Option, Some, None, ◌⊎◌, inl, inr, sym, refl, ap, subst, arith}
 use Rattle.std.specs.Prelude.{slice_get, unwrap_or, is_some, not, replicate, Vec}
 use Rattle.std.specs.declared.alloc.Global.{Global}
 use Rattle.std.specs.HashMap.{HashMap}
@@ -16,7 +16,7 @@ use Rattle.hq_overlap_sets.specs.Shapes.{ShapeTree, same_shape}
 use Rattle.hq_overlap_sets.proofs.ShapeLemmas.{true_shape}
 use Rattle.hq_overlap_sets.proofs.Least.{same_some}
 use Rattle.hq_overlap_sets.proofs.Stepping.{all_from}
-use Rattle.hq_overlap_sets.proofs.Tests.{no_member, contains_cases, contains_first}
+use Rattle.hq_overlap_sets.proofs.Tests.{no_member, contains_cases}
 use Rattle.hq_overlap_sets.specs.declared.sets.Pair.{Pair}
 use Rattle.hq_overlap_classes.specs.Disputes.{class_of}
 use Rattle.hq_overlap_classes.specs.Classes as class

@@ -1,14 +1,14 @@
 -- What classes at fault lead to is at fault.
-use Rattle.std.proofs.Common.{◌≡◌, ◌∙◌, ℕ, zero, suc, ◌<◌, ◌≤◌, List, [], ◌∷◌, ◌++◌, length, get_or, Bool, true, nat_eq, ◌⊎◌, inl, inr, sym, refl, ap, subst, arith}
-use Rattle.std.specs.Prelude.{filter, Vec}
+use Rattle.std.proofs.Common.{◌≡◌, ◌∙◌, ℕ, zero, suc, List, [], ◌∷◌, length, true, nat_eq, inl, inr, sym, subst}
+use Rattle.std.specs.Prelude.{Vec}
 use Rattle.std.specs.declared.alloc.Global.{Global}
-use Rattle.std.specs.List.{All, Contains, list_any, flat_map}
+use Rattle.std.specs.List.{All, Contains, flat_map}
 use Rattle.std.proofs.lemmas.List.Elements.{All-contains, Contains-append_cases}
-use Rattle.hq_gql_nodes.specs.Reach.{graph_view, has, inside, targets, within, reached}
+use Rattle.hq_gql_nodes.specs.Reach.{graph_view, has, targets, within, reached}
 use Rattle.hq_overlap_sets.specs.Rows.{row_at}
 use Rattle.hq_overlap_sets.specs.Sets.{SetTree}
 use Rattle.hq_overlap_sets.proofs.Stepping.{all_from}
-use Rattle.hq_overlap_sets.proofs.Tests.{nat_same, no_member, any_found, any_passes, contains_cases, contains_first, contains_later, nat_itself}
+use Rattle.hq_overlap_sets.proofs.Tests.{nat_same, no_member, any_found, any_passes, contains_first, contains_later, nat_itself}
 use Rattle.hq_overlap_classes.specs.Classes.{AtFault}
 use Rattle.hq_overlap_classes.specs.Noting.{AreEdges}
 use Rattle.hq_overlap_classes.proofs.Sifting.{filter_from}

@@ -10,7 +10,7 @@ use Rattle.hq_overlap_sets.specs.declared.sets.Set.{Set}
 use Rattle.std.proofs.lemmas.Bool.{both_ways, cases_lt, or_left, or_right}
 use Rattle.hq_overlap_classes.specs.Classes.{size_at}
 use Rattle.hq_overlap_classes.specs.Disputes.{Noted, IsSettled, IsTrueOf, IsTrueAt, IsTrueOfAll, keeps, kept_set, IsKeptBelow, AreKept, class_of, first_of, is_concerned, is_disputed, key_number, keeps_entry, noted_in}
-use Rattle.hq_overlap_sets.specs.Pairs.{fields_in, spreads_in, fields_at, spreads_at, here, Reached, SameLabel, Violates, later, AtMost, IsFirst}
+use Rattle.hq_overlap_sets.specs.Pairs.{fields_in, spreads_in, fields_at, spreads_at, here, Reached, SameLabel, Violates, later, IsFirst}
 use Rattle.hq_overlap_sets.specs.Sets.{FieldTree, SetTree, entry_view, set_view, set_in, arena_view}
 use Rattle.hq_overlap_sets.specs.Together as walk
 use Rattle.hq_overlap_sets.specs.Together.{Together, AreConflicts}

@@ -1,5 +1,5 @@
 -- Selection sets in classes of those that may be put together, and what is in dispute within a class.
-use Rattle.std.specs.Prelude.{◌≡◌, ℕ, ◌<◌, List, [], length, filter, Bool, true, false, cond, ◌||◌, ◌&&◌, nat_eq, nat_lt, is_some, Option, Some, None, option_map, unwrap_or, slice_get}
+use Rattle.std.specs.Prelude.{◌≡◌, ℕ, ◌<◌, List, [], length, filter, Bool, true, false, cond, ◌||◌, ◌&&◌, nat_eq, is_some, Option, Some, option_map, unwrap_or, slice_get}
 use Rattle.std.specs.HashMap as hash
 use Rattle.std.specs.List.{All}
 use Rattle.hq_schema.specs.Schema.{SchemaTree}

@@ -2,7 +2,7 @@
 use Rattle.std.proofs.Common.{◌≡◌, ap, refl, subst, ℕ, Bool, true, false, cond}
 use Rattle.std.specs.Prelude.{is_some}
 use Rattle.std.proofs.lemmas.Bool.{eqb-true, eq-eqb}
-use Rattle.hq_schema.specs.Schema.{TypeRefTree, SchemaTree}
+use Rattle.hq_schema.specs.Schema.{SchemaTree}
 use Rattle.hq_schema.specs.Schema as schema
 use Rattle.hq_gql_nodes.specs.Known.{object_at}
 use Rattle.hq_overlap_sets.specs.Shapes.{ShapeTree, leaf, object, list_of, non_null, shape_of, same_shape}

@@ -10,7 +10,7 @@ use Rattle.hq_overlap_sets.specs.Sets.{FieldTree, SetTree, document_sets}
 use Rattle.hq_overlap_sets.specs.Pairs.{fields_at, spreads_at, Reached, Violates, later, AtMost, IsFirst}
 use Rattle.hq_overlap_sets.specs.Places.{cannot_merge, conflict_place, Two, same_two, leads, has_way, below, all_two, are_together, overlap_in, overlap_place}
 use Rattle.hq_overlap_sets.specs.Together as walk
-use Rattle.hq_overlap_sets.specs.Together.{Together, IsConflict, AreConflicts}
+use Rattle.hq_overlap_sets.specs.Together.{Together, AreConflicts}
 use Rattle.hq_overlap_sets.proofs.Tests.{nat_same, nat_itself, no_member, any_found, any_passes, contains_map, contains_flat_map}
 use Rattle.hq_overlap_sets.proofs.Least.{at_if_true, at_if_low, least_low, least_found}
 use Rattle.hq_overlap_sets.proofs.Ways.{way_keeps, way_of_step, join_ways}

@@ -5,7 +5,7 @@ ghost use Rattle.hq_gql_tree.specs.Documents.{definition_view};
 ghost use Rattle.hq_gql_tree.specs.Selections.{selection_view, selections_of};
 ghost use Rattle.hq_gql_tree.specs.View.{document_view};
 ghost use Rattle.hq_gql_nodes.specs.Names.{get_name};
-ghost use Rattle.hq_overlap_sets.specs.Sets.{field_count, set_of, inner_sets, parent_of, selections_of_definition, roots, below_roots, document_sets, set_view, arena_view};
+ghost use Rattle.hq_overlap_sets.specs.Sets.{field_count, set_of, inner_sets, parent_of, selections_of_definition, roots, document_sets, set_view, arena_view};
 
 use crate::selections::{add_selections, empty_set};
 use crate::sets::{Arena, Set};

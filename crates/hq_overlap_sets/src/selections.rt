@@ -1,8 +1,8 @@
 //! The selection sets below fields, and the fields of each.
-ghost use Rattle.std.specs.Prelude.{◌≡◌, ◌+◌, ◌++◌, ◌∷◌, [], map, length, OnOk, IfOk};
+ghost use Rattle.std.specs.Prelude.{◌≡◌, ◌+◌, ◌++◌, [], map, length, OnOk, IfOk};
 ghost use Rattle.std.specs.Option.{option_to_list};
 ghost use Rattle.hq_schema.specs.Schema.{schema_view};
-ghost use Rattle.hq_gql_tree.specs.Selections.{field as field_tree, inline as inline_tree, selection_view, field_view, inline_view, selections_of};
+ghost use Rattle.hq_gql_tree.specs.Selections.{field as field_tree, selection_view, field_view, selections_of};
 ghost use Rattle.hq_gql_nodes.specs.Names.{get_name};
 ghost use Rattle.hq_overlap_sets.specs.Sets.{seen_field, field_count_of, field_count, own_fields_of, own_fields, own_spreads_of, own_spreads, inner_sets_of, inner_sets, entry_view, set_view};
 

@@ -1,5 +1,4 @@
 //! The typed request of a body.
-ghost use Rattle.std.specs.Prelude.{◌≡◌};
 ghost use Rattle.hq_request_tree.specs.Request.{ask_view};
 ghost use Rattle.hq_base.specs.Due.{Gives};
 ghost use Rattle.hq_schema.specs.Schema.{schema_view};

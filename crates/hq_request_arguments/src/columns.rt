@@ -6,7 +6,7 @@ ghost use Rattle.hq_request_tree.specs.Arguments.{sort_view};
 ghost use Rattle.hq_base.specs.Due.{Gives, and_then};
 ghost use Rattle.hq_base.specs.Json.{json_view};
 ghost use Rattle.hq_base.specs.Lists.{firsts};
-ghost use Rattle.hq_request_arguments.specs.Columns.{column_due, with_different, has_order, ordered, is_counted, matched, by_distinct, distinct_columns, distinct_due, one_column, by_columns, counted_due};
+ghost use Rattle.hq_request_arguments.specs.Columns.{column_due, with_different, has_order, ordered, is_counted, by_distinct, distinct_columns, distinct_due, one_column, by_columns, counted_due};
 ghost use Rattle.hq_request_arguments.specs.Context.{context_view};
 ghost use Rattle.hq_request_arguments.specs.Given.{given_view};
 ghost use Rattle.hq_request_arguments.specs.Reading.{each};

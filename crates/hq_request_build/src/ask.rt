@@ -4,7 +4,7 @@ ghost use Rattle.hq_base.specs.Due.{Gives, mapped};
 ghost use Rattle.hq_request_arguments.specs.Context.{context_view};
 ghost use Rattle.hq_request_build.specs.Asked.{fields_due, parts_due, with_below};
 ghost use Rattle.hq_request_build.specs.HeadSeen.{head_view};
-ghost use Rattle.hq_request_build.specs.KnownField.{leads_to, type_name_due};
+ghost use Rattle.hq_request_build.specs.KnownField.{type_name_due};
 ghost use Rattle.hq_request_build.specs.Looks.{looks_due};
 ghost use Rattle.hq_request_build.specs.Parts.{below_of, field_due, part_due, part_of};
 ghost use Rattle.hq_request_build.specs.Seen.{known_view};

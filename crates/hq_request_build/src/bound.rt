@@ -1,5 +1,5 @@
 //! Permissions, bound for a session.
-ghost use Rattle.std.specs.Prelude.{◌≡◌, map, length};
+ghost use Rattle.std.specs.Prelude.{map, length};
 ghost use Rattle.hq_base.specs.Due.{Gives, mapped};
 ghost use Rattle.hq_model.specs.Binding.{bound_masks, bound_permission};
 ghost use Rattle.hq_model.specs.Meta.{meta_view};

@@ -1,7 +1,7 @@
 //! The tables that the arguments of a list reach.
 #![tactic(auto, using(crate::proofs::Joined::joined_append))]
 
-ghost use Rattle.std.specs.Prelude.{◌≡◌, ◌∷◌, [], map, OnOk};
+ghost use Rattle.std.specs.Prelude.{◌≡◌, [], map, OnOk};
 ghost use Rattle.hq_model.specs.Bexp.{bexp_view, bexps_of};
 ghost use Rattle.hq_model.specs.Described.{scope_schema};
 ghost use Rattle.hq_request_tree.specs.Arguments.{sort_view, arguments_view};

@@ -2,7 +2,7 @@
 ghost use Rattle.std.specs.Prelude.{◌≡◌, map, IfOk, Option, Ok};
 ghost use Rattle.hq_base.specs.Due.{Gives};
 ghost use Rattle.hq_request_arguments.specs.Context.{context_view};
-ghost use Rattle.hq_request_build.specs.KnownField.{leads_to, deprecated_of};
+ghost use Rattle.hq_request_build.specs.KnownField.{deprecated_of};
 ghost use Rattle.hq_request_build.specs.Looks.{flag_by, looks_due};
 ghost use Rattle.hq_request_build.specs.Parts.{look_due};
 ghost use Rattle.hq_request_build.specs.Seen.{known_view};

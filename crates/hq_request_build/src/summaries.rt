@@ -1,5 +1,5 @@
 //! Fields of aggregates.
-ghost use Rattle.std.specs.Prelude.{◌≡◌, map};
+ghost use Rattle.std.specs.Prelude.{map};
 ghost use Rattle.hq_base.specs.Due.{Gives, mapped};
 ghost use Rattle.hq_request_arguments.specs.Context.{context_view};
 ghost use Rattle.hq_request_arguments.specs.FieldArguments.{field_args_view};

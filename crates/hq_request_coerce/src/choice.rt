@@ -1,9 +1,9 @@
 //! The operation that a request names.
-ghost use Rattle.std.specs.Prelude.{◌≡◌, map, count_by, option_copied, option_map, slice_get, option_and_then};
+ghost use Rattle.std.specs.Prelude.{◌≡◌, map, count_by, option_copied, option_map};
 ghost use Rattle.std.specs.List.{position_from};
 ghost use Rattle.hq_gql_tree.specs.Documents.{definition_view, operation_view};
 ghost use Rattle.hq_gql_tree.specs.View.{document_view};
-ghost use Rattle.hq_request_coerce.specs.Choice.{operation_in, is_operation, is_operation_named, sole_operation, operation_for, operation_at, if_query, query_at, chosen};
+ghost use Rattle.hq_request_coerce.specs.Choice.{operation_in, is_operation, is_operation_named, sole_operation, operation_for, operation_at, if_query, chosen};
 ghost use Rattle.hq_request_coerce.specs.Faults.{fault_of};
 
 use crate::OpRef;

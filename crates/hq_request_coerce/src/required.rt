@@ -1,10 +1,8 @@
 //! The variables that an operation uses where null can't stand.
-ghost use Rattle.std.specs.Prelude.{◌≡◌, ◌∷◌, [], ◌||◌, ℕ, List, map, IfOk, OnOk, option_map, option_copied, slice_index_or, bytes_eq};
+ghost use Rattle.std.specs.Prelude.{◌≡◌, [], ◌||◌, ℕ, List, map, IfOk, OnOk, option_map, option_copied, bytes_eq};
 ghost use Rattle.std.specs.List.{list_any};
 ghost use Rattle.std.specs.Option.{option_to_list};
-ghost use Rattle.hq_schema.specs.Schema.{schema_view};
 ghost use Rattle.hq_gql_tree.specs.Values.{placed_view};
-ghost use Rattle.hq_gql_tree.specs.View.{document_view};
 ghost use Rattle.hq_gql_nodes.specs.Known.{place_view};
 ghost use Rattle.hq_gql_nodes.specs.Names.{has_name};
 ghost use Rattle.hq_gql_nodes.specs.Nodes.{node_view, part_view};

@@ -1,5 +1,5 @@
 //! JSON values at the types of a schema.
-ghost use Rattle.std.specs.Prelude.{◌≡◌, ◌++◌, map, IfOk, OnOk, Some, None, option_map, option_and_then, bytes_eq, is_some};
+ghost use Rattle.std.specs.Prelude.{◌≡◌, ◌++◌, map, IfOk, OnOk, Some, None, option_map, option_and_then};
 ghost use Rattle.std.specs.List.{filter_map, list_any};
 ghost use Rattle.hq_base.specs.Cells.{cell_of, json_of};
 ghost use Rattle.hq_base.specs.Json.{arr, json_view, member_view, elements_of, members_of, names_of};

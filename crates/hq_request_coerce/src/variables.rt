@@ -1,16 +1,16 @@
 //! The variables of an operation.
-ghost use Rattle.std.specs.Prelude.{◌≡◌, ◌++◌, [], ℕ, List, map, IfOk, OnOk, Some, option_map, option_and_then};
+ghost use Rattle.std.specs.Prelude.{◌≡◌, ◌++◌, [], map, IfOk, OnOk, Some, option_map};
 ghost use Rattle.hq_request_coerce.specs.Choice.{operation_at};
 ghost use Rattle.hq_base.specs.Due.{Gives};
 ghost use Rattle.hq_base.specs.Json.{json_view};
 ghost use Rattle.hq_schema.specs.Schema.{schema_view, type_ref_view};
-ghost use Rattle.hq_gql_tree.specs.Documents.{var_def_view, operation_view};
+ghost use Rattle.hq_gql_tree.specs.Documents.{var_def_view};
 ghost use Rattle.hq_gql_tree.specs.Values.{placed_view};
 ghost use Rattle.hq_gql_tree.specs.View.{document_view};
 ghost use Rattle.hq_gql_nodes.specs.Known.{resolved};
 ghost use Rattle.hq_gql_nodes.specs.Names.{has_name};
 ghost use Rattle.hq_gql_nodes.specs.Nodes.{variable_types};
-ghost use Rattle.hq_request_coerce.specs.Due.{refused, default_value, given_value, checked_value, value_due, value_if_known, variable_due, with_value, values_due, variables_of, variables_due};
+ghost use Rattle.hq_request_coerce.specs.Due.{refused, default_value, given_value, checked_value, value_due, variable_due, with_value, values_due, variables_of, variables_due};
 ghost use Rattle.hq_request_coerce.specs.Given.{given_seen};
 ghost use Rattle.hq_request_coerce.specs.Required.{is_required};
 ghost use Rattle.hq_request_coerce.specs.Variables.{var_view};

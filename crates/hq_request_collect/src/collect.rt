@@ -2,7 +2,6 @@
 ghost use Rattle.std.specs.Prelude.{◌≡◌, map, IfOk, OnOk};
 ghost use Rattle.hq_gql_tree.specs.Selections.{selection_view, field_view, spread_view};
 ghost use Rattle.hq_gql_tree.specs.Selections.{spread as spread_tree};
-ghost use Rattle.hq_gql_nodes.specs.Names.{has_name};
 ghost use Rattle.hq_request_collect.specs.Collect.{collect, collect_one, collect_included, none, with_field, visit};
 ghost use Rattle.hq_request_collect.specs.Seen.{request_seen, groups_seen, seen};
 

@@ -1,5 +1,5 @@
 //! Fields under their response keys.
-ghost use Rattle.std.specs.Prelude.{◌≡◌, ◌++◌, ◌∷◌, [], OnOk};
+ghost use Rattle.std.specs.Prelude.{◌≡◌, [], OnOk};
 ghost use Rattle.hq_gql_tree.specs.Selections.{field_view};
 ghost use Rattle.hq_request_collect.specs.Groups.{response_key, grouped};
 ghost use Rattle.hq_request_collect.specs.Seen.{groups_seen};

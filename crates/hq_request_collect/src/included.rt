@@ -1,5 +1,5 @@
 //! `@skip` and `@include`.
-ghost use Rattle.std.specs.Prelude.{◌≡◌, map, find, option_map, option_copied, codes, bytes_eq};
+ghost use Rattle.std.specs.Prelude.{◌≡◌, map, find, option_copied, codes, bytes_eq};
 ghost use Rattle.hq_base.specs.Json.{json_view};
 ghost use Rattle.hq_gql_tree.specs.Values.{value_view, argument_view, directive_view};
 ghost use Rattle.hq_request_coerce.specs.Variables.{var_view};

@@ -1,5 +1,5 @@
-ghost use Rattle.std.specs.Prelude.{◌≡◌, IfOk, false, map};
-ghost use Rattle.hq_base.specs.Json.{str, arr, elements_of, json_view};
+ghost use Rattle.std.specs.Prelude.{◌≡◌, IfOk, false};
+ghost use Rattle.hq_base.specs.Json.{str, json_view};
 ghost use Rattle.hq_base.specs.Text.{has_zero};
 ghost use Rattle.hq_request_introspect.specs.Directives.{directive_locations};
 ghost use Rattle.hq_request_introspect.specs.Nodes.{text, texts};

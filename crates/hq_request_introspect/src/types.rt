@@ -1,7 +1,6 @@
 ghost use Rattle.std.specs.Prelude.{◌≡◌, IfOk, map, option_map};
 ghost use Rattle.hq_schema.specs.Look.{type_at};
 ghost use Rattle.hq_schema.specs.Schema.{arg_view, field_view, type_view, type_ref_view, schema_view};
-ghost use Rattle.hq_request_introspect.specs.Directives.{all_directives};
 ghost use Rattle.hq_request_introspect.specs.Nodes.{many, field_node, input_node, value_node, directive_node, type_node, type_or_null};
 ghost use Rattle.hq_request_introspect.specs.Types.{referred, schema_value, object_fields, object_interfaces, enum_values, input_fields, type_value, wrapper_value};
 ghost use Rattle.hq_request_introspect.specs.Views.{resolved_view, types_view};

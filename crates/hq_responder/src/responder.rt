@@ -15,7 +15,6 @@ pub struct EngineResponder<P, F, D> {
 
 impl<P: HookRule, F: Fn(&Headers) -> HookAnswer, D: Database> Responder
     for EngineResponder<P, F, D> {
-    ghost use Rattle.std.specs.Prelude.{◌≡◌};
     ghost use Rattle.hq_session.specs.declared.hook.HookAnswer.TheVariants as answer;
     ghost use Rattle.hq_responder.specs.Due.{IsReady, MayGive};
     ghost use Rattle.hq_model.specs.Meta.{meta_view};

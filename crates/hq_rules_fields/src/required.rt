@@ -1,5 +1,5 @@
 //! Required arguments and input fields that are not given.
-ghost use Rattle.std.specs.Prelude.{◌≡◌, map, find, option_map, bytes_eq};
+ghost use Rattle.std.specs.Prelude.{◌≡◌, map};
 ghost use Rattle.hq_schema.specs.Schema.{arg_view};
 ghost use Rattle.hq_gql_tree.specs.Values.{argument_view};
 ghost use Rattle.hq_rules_fields.specs.NodeRules.{is_required, is_given, lacks, lacks_any};

@@ -1,19 +1,19 @@
 -- A walk whose pairs are all done has met each pair that the rule reaches.
-use Rattle.std.proofs.Common.{◌≡◌, ℕ, zero, suc, ◌+◌, ◌<◌, ◌≤◌, List, [], ◌∷◌, ◌++◌, Option, Some, None, length, inl, inr, sym, refl, ◌∙◌, subst, arith, false}
+use Rattle.std.proofs.Common.{◌≡◌, ℕ, zero, suc, ◌+◌, ◌<◌, ◌≤◌, List, [], ◌∷◌, ◌++◌, Some, None, length, inl, inr, sym, refl, ◌∙◌, subst, arith, false}
 use Rattle.std.proofs.Math.Nat.{max_comm}
-use Rattle.std.specs.Prelude.{MatchOption, ⊤, slice_get}
+use Rattle.std.specs.Prelude.{slice_get}
 use Rattle.std.specs.List.{Contains}
 use Rattle.std.proofs.lemmas.Bool.{cases_lt, both_ways}
 use Rattle.std.proofs.lemmas.List.Elements.{All-contains, All-weaker}
 use Rattle.std.proofs.lemmas.Option.{slice_get_within, get_or_from_slice_get, slice_get_read}
 use Rattle.hq_overlap_sets.specs.declared.sets.Pair.{Pair}
 use Rattle.hq_rules_overlap.specs.declared.walk.Walk.{Walk}
-use Rattle.hq_overlap_sets.specs.Sets.{LabelTree, FieldTree, SetTree}
+use Rattle.hq_overlap_sets.specs.Sets.{FieldTree, SetTree}
 use Rattle.hq_overlap_sets.specs.Pairs as rule
-use Rattle.hq_overlap_sets.specs.Pairs.{fields_at, spreads_at, Within, here, spread, Reached, SameLabel, Violates, later, AtMost, IsFirst}
+use Rattle.hq_overlap_sets.specs.Pairs.{fields_at, spreads_at, Violates, later, AtMost, IsFirst}
 use Rattle.hq_overlap_sets.specs.Together as walk
-use Rattle.hq_rules_overlap.specs.Walk.{IsEmpty, Met, is_marked, Known, Compared, ComparedWith, IsDone, IsSound, AreDone, HasRoots, Step}
-use Rattle.hq_overlap_sets.specs.Together.{Together, IsConflict, AreConflicts}
+use Rattle.hq_rules_overlap.specs.Walk.{Met, is_marked, Known, Compared, ComparedWith, IsDone, IsSound, AreDone, HasRoots, Step}
+use Rattle.hq_overlap_sets.specs.Together.{Together, AreConflicts}
 use Rattle.hq_overlap_sets.proofs.Tests.{no_member}
 use Rattle.hq_overlap_sets.proofs.Reaching.{in_sets, found_from, violates_turned}
 use Rattle.hq_overlap_sets.proofs.Least.{same_some}

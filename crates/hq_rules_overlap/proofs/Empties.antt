@@ -1,5 +1,5 @@
 -- Sets without fields and spreads, and numbers without a set.
-use Rattle.std.proofs.Common.{◌≡◌, ◌∙◌, ap, ℕ, List, [], ◌∷◌, length, map, inl, inr, Some, None, arith}
+use Rattle.std.proofs.Common.{◌≡◌, ◌∙◌, ap, ℕ, [], length, map, inl, inr, Some, None}
 use Rattle.std.specs.Prelude.{slice_get}
 use Rattle.hq_schema.specs.Schema.{schema_view}
 use Rattle.hq_overlap_sets.specs.declared.sets.Arena.{Arena}

@@ -1,5 +1,5 @@
 -- The fields of a group, each two of which stand in sets that are put together.
-use Rattle.std.proofs.Common.{◌≡◌, ◌∙◌, ℕ, ◌+◌, ◌<◌, List, [], ◌∷◌, ◌++◌, map, length, take, get_or, ◌⊎◌, inl, inr, sym, refl, ap, subst}
+use Rattle.std.proofs.Common.{◌≡◌, ◌∙◌, ℕ, ◌+◌, ◌<◌, List, [], ◌∷◌, ◌++◌, map, length, take, get_or, ◌⊎◌, inl, inr, sym, ap, subst}
 use Rattle.std.specs.List.{All, Contains}
 use Rattle.std.specs.List.Sorted.{IsPermutation}
 use Rattle.std.proofs.lemmas.List.{take_more}
@@ -8,7 +8,7 @@ use Rattle.std.proofs.lemmas.List.Sorted.{IsPermutation-map, All-permutation, Co
 use Rattle.hq_overlap_sets.specs.Sets.{FieldTree, SetTree}
 use Rattle.hq_overlap_sets.specs.Pairs.{fields_at}
 use Rattle.hq_overlap_sets.proofs.Tests.{no_member, contains_cases}
-use Rattle.hq_rules_overlap.specs.Groups.{AreTogether, IsWithin, AreOf, IsMet, AreMet}
+use Rattle.hq_rules_overlap.specs.Groups.{AreTogether, IsWithin, AreOf, AreMet}
 use Rattle.hq_overlap_sets.proofs.Stepping.{all_from}
 use Rattle.hq_overlap_sets.proofs.RowLemmas.{split_member}
 

@@ -1,17 +1,16 @@
 -- Groups that are done stand for all pairs of sets that are put together.
-use Rattle.std.proofs.Common.{◌≡◌, ◌∙◌, ℕ, ◌<◌, ◌≤◌, List, [], ◌∷◌, ◌++◌, map, length, get_or, Option, Some, None, ◌⊎◌, inl, inr, sym, refl, ap, subst, arith}
-use Rattle.std.specs.Prelude.{slice_get}
+use Rattle.std.proofs.Common.{◌≡◌, ◌∙◌, ℕ, ◌<◌, ◌≤◌, List, [], length, Option, ◌⊎◌, inl, inr, sym, refl, ap, subst, arith}
 use Rattle.std.specs.List.{All, Contains}
-use Rattle.std.proofs.lemmas.List.Elements.{All-contains, Contains-get_or}
+use Rattle.std.proofs.lemmas.List.Elements.{All-contains}
 use Rattle.std.proofs.lemmas.Option.{slice_get_read}
-use Rattle.hq_overlap_sets.specs.Sets.{LabelTree, FieldTree, SetTree}
-use Rattle.hq_overlap_sets.specs.Pairs.{fields_at, spreads_at, SameLabel, Violates, later, AtMost, IsFirst}
+use Rattle.hq_overlap_sets.specs.Sets.{FieldTree, SetTree}
+use Rattle.hq_overlap_sets.specs.Pairs.{fields_at, SameLabel, Violates, later, AtMost, IsFirst}
 use Rattle.hq_overlap_sets.specs.Together as walk
 use Rattle.hq_overlap_sets.specs.Together.{Together, AreConflicts}
 use Rattle.hq_overlap_sets.proofs.Tests.{contains_first}
 use Rattle.hq_overlap_sets.proofs.Least.{same_some}
 use Rattle.hq_overlap_sets.proofs.Reaching.{in_sets, found_from, label_turned, label_joined, at_most_left, at_most_right}
-use Rattle.hq_rules_overlap.specs.Groups.{HasAll, IsWithin, IsSettled, AreCounted, InOne, IsDone, IsExplored, AreExplored, IsCovered}
+use Rattle.hq_rules_overlap.specs.Groups.{IsSettled, AreCounted, IsDone, IsExplored, AreExplored, IsCovered}
 
 -- two sets of a group that is done
 module _ (sets : List SetTree) (lists : List (List ℕ)) (least : Option ℕ) where

@@ -1,10 +1,10 @@
 -- Groups that grow by what their sets spread.
-use Rattle.std.proofs.Common.{◌≡◌, ◌∙◌, ℕ, zero, suc, ◌+◌, ◌<◌, ◌≤◌, List, [], ◌∷◌, ◌++◌, length, take, get_or, ◌⊎◌, inl, inr, Option, Some, None, sym, refl, ap, subst, arith, append_assoc}
+use Rattle.std.proofs.Common.{◌≡◌, ◌∙◌, ℕ, zero, suc, ◌+◌, ◌<◌, ◌≤◌, List, [], ◌∷◌, ◌++◌, length, take, get_or, ◌⊎◌, inl, inr, Some, None, sym, refl, ap, subst, arith, append_assoc}
 use Rattle.std.specs.Prelude.{slice_get}
 use Rattle.std.specs.List.{All, Contains}
 use Rattle.std.proofs.lemmas.Bool.{cases_lt}
 use Rattle.std.proofs.lemmas.List.{take_more}
-use Rattle.std.proofs.lemmas.List.Elements.{All-nil, All-append, All-cons, All-contains, All-weaker, Contains-append_left, Contains-append_right, Contains-push, Contains-get_or}
+use Rattle.std.proofs.lemmas.List.Elements.{All-nil, All-append, All-cons, All-contains, All-weaker, Contains-append_left, Contains-append_right, Contains-push}
 use Rattle.std.proofs.lemmas.Option.{slice_get_within, get_or_from_slice_get, slice_get_read}
 use Rattle.hq_overlap_sets.specs.Sets.{SetTree}
 use Rattle.hq_overlap_sets.specs.Pairs.{spreads_at}
@@ -15,7 +15,6 @@ use Rattle.hq_overlap_sets.proofs.Least.{same_some}
 use Rattle.hq_overlap_sets.proofs.RowLemmas.{split_member}
 use Rattle.hq_overlap_sets.proofs.Tests.{contains_first}
 use Rattle.hq_rules_overlap.specs.Groups.{HasAll, AreTogether, Grows, IsClosed}
-use Rattle.hq_overlap_sets.proofs.Stepping.{all_from}
 
 -- a number at a place stands in the list
 pub contains_at : (xs : List ℕ) (i x y : ℕ) → slice_get xs i ≡ Some x → x ≡ y → Contains xs y

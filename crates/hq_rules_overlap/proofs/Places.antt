@@ -1,11 +1,11 @@
 -- Places that are known, and those of conflicts.
-use Rattle.std.proofs.Common.{◌≡◌, ◌∙◌, ℕ, ◌≤◌, List, Bool, true, Option, Some, None, ◌⊎◌, inl, inr, sym, refl, subst, arith}
+use Rattle.std.proofs.Common.{◌≡◌, ◌∙◌, ℕ, List, Bool, true, Option, Some, None, ◌⊎◌, inl, inr, sym, refl, subst}
 use Rattle.std.proofs.lemmas.Bool.{leb-true}
 use Rattle.hq_gql_nodes.specs.Least.{earlier, at_if}
 use Rattle.hq_overlap_sets.specs.Sets.{FieldTree, SetTree}
 use Rattle.hq_overlap_sets.specs.Pairs.{AtMost, later}
 use Rattle.hq_overlap_sets.specs.Places.{cannot_merge}
-use Rattle.hq_overlap_sets.specs.Together.{IsConflict, AreConflicts}
+use Rattle.hq_overlap_sets.specs.Together.{AreConflicts}
 use Rattle.hq_overlap_sets.proofs.FieldTests.{violates_by}
 use Rattle.hq_overlap_sets.proofs.Least.{low_left, low_right, at_if_true, at_if_low}
 use Rattle.hq_rules_overlap.specs.Groups.{IsMet, is_at_most}

@@ -1,6 +1,6 @@
 -- The rows of sets below the fields of each key.
 use Rattle.std.proofs.Common.{◌≡◌, ◌∙◌, ℕ, zero, suc, ◌<◌, ◌≤◌, List, [], ◌∷◌, map, length, get_or, ◌⊎◌, inl, inr, sym, refl, ap, subst, arith}
-use Rattle.std.specs.Prelude.{slice_get, Vec}
+use Rattle.std.specs.Prelude.{Vec}
 use Rattle.std.specs.declared.alloc.Global.{Global}
 use Rattle.std.specs.Borrow.{Bor}
 use Rattle.std.specs.HashMap.{HashMap}
@@ -16,7 +16,7 @@ use Rattle.hq_overlap_sets.specs.Together as walk
 use Rattle.hq_overlap_sets.specs.Together.{Together}
 use Rattle.hq_overlap_sets.proofs.Least.{same_some}
 use Rattle.hq_overlap_sets.proofs.Tests.{no_member}
-use Rattle.hq_rules_overlap.specs.Groups.{AreTogether, AreMet, InOne, HaveBelow, IsKeyAt, IsBelow, AreBelow, HasRow}
+use Rattle.hq_rules_overlap.specs.Groups.{AreTogether, AreMet, HaveBelow, IsKeyAt, IsBelow, AreBelow, HasRow}
 
 -- beyond a list there is what stands for nothing
 get_beyond : {X : Type 0} (xs : List X) (i : ℕ) (d : X) → length xs ≤ i → get_or xs i d ≡ d

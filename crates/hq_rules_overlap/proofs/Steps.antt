@@ -1,12 +1,10 @@
 -- Steps of the walk.
-use Rattle.std.proofs.Common.{◌≡◌, ℕ, ◌+◌, ◌<◌, ◌≤◌, map, take, get_or, List, [], ◌∷◌, ◌++◌, Bool, true, length, ◌⊎◌, inl, inr, sym, refl, ap, ◌∙◌, subst, Result, Ok, Err, Option, None}
+use Rattle.std.proofs.Common.{◌≡◌, ℕ, ◌+◌, List, [], ◌∷◌, ◌++◌, Bool, true, ◌⊎◌, inl, inr, sym, refl, ap, ◌∙◌, subst, Option, None}
 use Rattle.std.specs.Prelude.{is_some, nat_eq, ◌&&◌, ◌||◌, slice_get, slice_index_or}
 use Rattle.std.specs.HashMap as hash
 use Rattle.std.specs.List.{Contains, All}
-use Rattle.std.specs.Result.{OnOk}
 use Rattle.std.proofs.lemmas.Bool.{eqb-true, and_parts, or_cases}
-use Rattle.std.proofs.lemmas.List.{take_all, length-map, get_or-map}
-use Rattle.std.proofs.lemmas.List.Elements.{All-nil, All-more, All-weaker, All-map, Contains-get_or, Contains-push, Contains-push_cases, Contains-append_left}
+use Rattle.std.proofs.lemmas.List.Elements.{All-nil, All-weaker, Contains-push, Contains-push_cases, Contains-append_left}
 use Rattle.hq_overlap_sets.specs.declared.sets.Pair.{Pair}
 use Rattle.hq_rules_overlap.specs.declared.walk.Walk.{Walk}
 use Rattle.hq_overlap_sets.specs.Sets.{FieldTree, SetTree}

@@ -1,5 +1,5 @@
 -- What the search by groups keeps.
-use Rattle.std.specs.Prelude.{◌≡◌, ℕ, ◌<◌, ◌≤◌, ◌++◌, List, [], ◌∷◌, length, Bool, true, false, Option, Some, None, slice_get, unwrap_or}
+use Rattle.std.specs.Prelude.{◌≡◌, ℕ, ◌++◌, List, [], length, Bool, true, false, slice_get, unwrap_or}
 use Rattle.std.specs.List.{All, Contains}
 use Rattle.hq_gql_nodes.specs.Reach.{graph_view}
 use Rattle.hq_overlap_sets.specs.Pairs.{AtMost, IsFirst}
@@ -8,7 +8,6 @@ use Rattle.hq_overlap_sets.specs.Together.{AreConflicts}
 use Rattle.hq_rules_overlap.specs.declared.groups.Groups.{Groups}
 use Rattle.hq_rules_overlap.specs.declared.groups.Search.{Search}
 use Rattle.hq_rules_overlap.specs.declared.groups.Search.TheVariants.{First, Known}
-use Rattle.hq_rules_overlap.specs.declared.lists.Lists.{Lists}
 use Rattle.hq_rules_overlap.specs.Groups.{AreTogether, IsDone, IsExplored, AreExplored, IsCovered}
 
 -- a list goes on where another one ends

@@ -1,5 +1,5 @@
 -- What the walk over pairs of selection sets keeps.
-use Rattle.std.specs.Prelude.{◌≡◌, ℕ, ◌<◌, ◌++◌, List, [], Bool, true, is_some, Option, Some, length, ◌⊎◌, ◌&&◌, nat_eq, slice_get}
+use Rattle.std.specs.Prelude.{◌≡◌, ℕ, ◌<◌, ◌++◌, List, [], Bool, true, is_some, Some, ◌⊎◌, ◌&&◌, nat_eq, slice_get}
 use Rattle.std.specs.HashMap as hash
 use Rattle.std.specs.List.{Contains, All}
 use Rattle.hq_overlap_sets.specs.declared.sets.Pair.{Pair}

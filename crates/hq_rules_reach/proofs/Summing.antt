@@ -1,5 +1,5 @@
 -- Summaries of uses: of uses that are alike the first one stands for all.
-use Rattle.std.proofs.Common.{◌≡◌, ◌∙◌, ap, sym, refl, ℕ, zero, suc, ◌+◌, ◌<◌, ◌≤◌, ◌≢◌, length, get_or, take, drop, map, min, List, [], ◌∷◌, ◌++◌, ◌||◌, Bool, true, false, Option, Some, None, option_map, subst, arith, cond, Vec, Global}
+use Rattle.std.proofs.Common.{◌≡◌, ◌∙◌, ap, sym, refl, ℕ, zero, suc, ◌+◌, ◌<◌, ◌≤◌, length, get_or, take, drop, map, List, [], ◌∷◌, ◌++◌, ◌||◌, Bool, true, false, Option, Some, None, option_map, subst, arith, Vec, Global}
 use Rattle.std.proofs.lemmas.Grind.{common_steps}
 use Rattle.std.proofs.lemmas.List.{take_more, map-append}
 use Rattle.std.proofs.lemmas.List.Folds.{list_any-append}
@@ -11,7 +11,7 @@ use Rattle.hq_gql_nodes.specs.declared.parts.Part.{Part}
 use Rattle.hq_gql_nodes.specs.Nodes.{PartTree, part_view, node_view}
 use Rattle.hq_gql_nodes.proofs.Lesser.{earlier_none, earlier_assoc}
 use Rattle.hq_rules_reach.specs.declared.uses.Use.{Use}
-use Rattle.hq_rules_reach.specs.Uses.{UseTree, use_view, number_view, uses_at, uses_view, all_uses, uses_of}
+use Rattle.hq_rules_reach.specs.Uses.{UseTree, use_view, number_view, uses_view, all_uses, uses_of}
 use Rattle.hq_rules_reach.specs.Summaries.{is_same_type, IsLike, HasLike, IsSummary, AreSummaries, Ascends}
 use Rattle.hq_rules_reach.specs.Fit.{IsAtMost}
 use Rattle.std.proofs.lemmas.Bool.{eqb-true}

@@ -1,13 +1,12 @@
 -- The rules of variables over definitions with the same members, and over summaries of uses.
 use Rattle.std.proofs.Common.{◌≡◌, ◌∙◌, ap, refl, sym, ℕ, List, Bool, false, Option, Some, None, bytes_eq}
 use Rattle.std.specs.Prelude.{is_none, option_and_then, slice_get}
-use Rattle.std.specs.Option.{option_map_or}
 use Rattle.std.specs.List.{list_any}
 use mathlib.Core.Path.{fun_ext}
 use Rattle.hq_schema.specs.Schema.{SchemaTree}
 use Rattle.hq_gql_tree.specs.Documents.{VarDefTree}
 use Rattle.hq_gql_nodes.specs.Known.{PlaceTree, resolved}
-use Rattle.hq_gql_nodes.specs.Least.{earlier, at_if, least_of}
+use Rattle.hq_gql_nodes.specs.Least.{at_if, least_of}
 use Rattle.hq_rules_reach.specs.Uses.{UseTree, uses_at}
 use Rattle.hq_rules_reach.specs.Summaries.{AreSummaries}
 use Rattle.hq_rules_reach.specs.Variables.{variable_named, undefined_use, wrong_use, is_wrong_type, has_default, unused_by, undefined_in, unused_in, wrong_in}

@@ -1,12 +1,12 @@
 -- The uses of variables that the rules need: of those of one name at places that are alike, the first one.
-use Rattle.std.specs.Prelude.{◌≡◌, ℕ, ◌≤◌, ◌<◌, ◌==◌, List, [], ◌∷◌, Bool, false, Option, option_map, slice_index_or, Vec, length, map}
+use Rattle.std.specs.Prelude.{◌≡◌, ℕ, ◌≤◌, ◌<◌, ◌==◌, List, [], ◌∷◌, Bool, false, Option, option_map, slice_index_or, Vec, length}
 use Rattle.std.specs.declared.alloc.Global.{Global}
 use Rattle.std.specs.List.{All, list_any}
 use Rattle.hq_schema.specs.Schema.{TypeRefTree, named, list_of, non_null}
 use Rattle.hq_gql_nodes.specs.Known.{PlaceTree, place_view}
 use Rattle.hq_gql_nodes.specs.Least.{at_if, least_of}
 use Rattle.hq_rules_reach.specs.declared.uses.Use.{Use}
-use Rattle.hq_rules_reach.specs.Uses.{UseTree, use_view, uses_at}
+use Rattle.hq_rules_reach.specs.Uses.{UseTree, uses_at}
 
 -- whether two references are one
 abbrev pub is_same_type : TypeRefTree → TypeRefTree → Bool

@@ -1,5 +1,5 @@
 //! The parts of a graph whose places lead to each other, told by numbers that do not fall along any step.
-ghost use Rattle.std.specs.Prelude.{◌≡◌, ◌<◌, ◌≤◌, ℕ, length, true, false, slice_index_or, IfOk, OnOk};
+ghost use Rattle.std.specs.Prelude.{◌≡◌, ◌<◌, ◌≤◌, ℕ, length, true, false, slice_index_or, IfOk};
 ghost use Rattle.hq_gql_nodes.specs.Reach.{graph_view};
 ghost use Rattle.hq_gql_nodes.specs.Marks.{Among};
 ghost use Rattle.hq_rules_reach.specs.Spreads.{leads_back};

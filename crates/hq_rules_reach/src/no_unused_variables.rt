@@ -1,5 +1,5 @@
 //! 5.8.4 All Variables Used: a variable that is used neither in its operation nor in what that reaches.
-ghost use Rattle.std.specs.Prelude.{◌≡◌, ◌||◌, ◌==◌, ◌<◌, ℕ, map, length, replicate, slice_index_or, false, IfOk, OnOk};
+ghost use Rattle.std.specs.Prelude.{◌≡◌, ◌||◌, ◌==◌, ◌<◌, ℕ, map, length, replicate, slice_index_or, false, IfOk};
 ghost use Rattle.std.specs.List.{list_any};
 ghost use Rattle.hq_gql_tree.specs.Documents.{var_def_view};
 ghost use Rattle.hq_gql_nodes.specs.Least.{least_of};

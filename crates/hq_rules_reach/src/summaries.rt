@@ -1,5 +1,5 @@
 //! The uses of variables that the rules need: of those of one name at places that are alike, the first one.
-ghost use Rattle.std.specs.Prelude.{◌≡◌, true, map, length, option_map, IfOk, OnOk};
+ghost use Rattle.std.specs.Prelude.{◌≡◌, true, map, option_map, IfOk};
 ghost use Rattle.std.specs.List.{All};
 ghost use Rattle.hq_schema.specs.Schema.{type_ref_view};
 ghost use Rattle.hq_gql_nodes.specs.Fragments.{Places};

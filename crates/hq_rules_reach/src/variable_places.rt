@@ -1,5 +1,5 @@
 //! The places of an operation's variables by the numbers of their names, in a list that serves all operations in turn.
-ghost use Rattle.std.specs.Prelude.{◌≡◌, ℕ, List, Some, None, map, ◌==◌, ◌<◌, length, replicate, false, IfOk, if◌then◌else◌};
+ghost use Rattle.std.specs.Prelude.{◌≡◌, ℕ, Some, None, map, ◌==◌, ◌<◌, length, false, IfOk, if◌then◌else◌};
 ghost use Rattle.std.specs.List.{list_any, position_from};
 ghost use Rattle.std.specs.Option.{option_or};
 ghost use Rattle.hq_gql_tree.specs.Documents.{var_def_view};

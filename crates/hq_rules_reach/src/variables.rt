@@ -1,5 +1,5 @@
 //! The rules of the uses of variables, in one search for each operation.
-ghost use Rattle.std.specs.Prelude.{◌≡◌, ◌∷◌, [], ℕ, None, map, option_map, length, IfOk, OnOk};
+ghost use Rattle.std.specs.Prelude.{◌≡◌, ◌∷◌, [], None, map, option_map, length, IfOk};
 ghost use Rattle.hq_schema.specs.Schema.{schema_view, type_ref_view};
 ghost use Rattle.hq_gql_tree.specs.Documents.{var_def_view, definition_view};
 ghost use Rattle.hq_gql_tree.specs.View.{document_view};

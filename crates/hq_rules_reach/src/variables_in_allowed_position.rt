@@ -1,5 +1,5 @@
 //! 5.8.5 All Variable Usages Are Allowed: a use whose variable's type does not go with its place.
-ghost use Rattle.std.specs.Prelude.{◌≡◌, map, option_map, option_and_then, slice_get};
+ghost use Rattle.std.specs.Prelude.{◌≡◌, map, option_map};
 ghost use Rattle.hq_schema.specs.Schema.{schema_view, type_ref_view};
 ghost use Rattle.hq_gql_tree.specs.Documents.{var_def_view};
 ghost use Rattle.hq_gql_tree.specs.Values.{placed_view};

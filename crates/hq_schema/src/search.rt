@@ -1,4 +1,4 @@
-ghost use Rattle.std.specs.Prelude.{◌≡◌, [], map, find, bytes_eq, slice_index_or};
+ghost use Rattle.std.specs.Prelude.{◌≡◌, [], map, find, bytes_eq};
 ghost use Rattle.hq_base.specs.Lists.{Ascends};
 ghost use Rattle.hq_schema.specs.Sorted.{name_at, by_name};
 

@@ -1,5 +1,4 @@
 ghost use Rattle.std.specs.Prelude.{◌≡◌, IfOk, map};
-ghost use Rattle.hq_schema.specs.Fixed.{all_fixed};
 ghost use Rattle.hq_schema.specs.Schema.{arg_view, field_view, type_view};
 ghost use Rattle.hq_schema_of_role.specs.FixedTypes.{fixed_values, fixed_inputs, fixed_fields, fixed_type, fixed_types};
 

@@ -1,6 +1,5 @@
 ghost use Rattle.std.specs.Prelude.{◌≡◌, IfOk};
-ghost use Rattle.hq_schema.specs.Parts.{part_place};
-ghost use Rattle.hq_schema.specs.Schema.{named, non_null, type_ref_view};
+ghost use Rattle.hq_schema.specs.Schema.{non_null, type_ref_view};
 ghost use Rattle.hq_schema_of_role.specs.References.{fixed, items, all_items, part};
 
 use hq_base::Memory;

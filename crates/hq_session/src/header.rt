@@ -1,7 +1,6 @@
-ghost use Rattle.std.specs.Prelude.{◌≡◌, IfOk, MatchOption, None, Some, true, false, map, is_some};
+ghost use Rattle.std.specs.Prelude.{◌≡◌, IfOk, MatchOption, None, Some, true, false, is_some};
 ghost use Rattle.std.specs.List.{list_all, before_first, after_first, list_any};
-ghost use Rattle.hq_base.specs.Text.{has_zero};
-ghost use Rattle.hq_session.specs.Fields.{is_token_byte, is_token, is_colon, header_of, header_in, lowered, trimmed};
+ghost use Rattle.hq_session.specs.Fields.{is_token_byte, is_token, is_colon, header_in, lowered, trimmed};
 
 use crate::blanks::trimmed;
 use hq_base::{Memory, Txt};

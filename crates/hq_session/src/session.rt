@@ -1,4 +1,4 @@
-ghost use Rattle.std.specs.Prelude.{◌≡◌, ◌++◌, ◌∷◌, [], List as Items, false, IfOk, OnOk, map, filter, cond, option_copied};
+ghost use Rattle.std.specs.Prelude.{◌≡◌, ◌++◌, ◌∷◌, [], List as Items, false, IfOk, OnOk, cond, option_copied};
 ghost use Rattle.hq_base.specs.Text.{has_zero};
 ghost use Rattle.hq_model.specs.declared.session.Var.{Var};
 ghost use Rattle.hq_session.specs.Sessions.{value_of, role_in, role_variable, is_variable, variable_of, has_variable, new_variables, variables_in, session_of};

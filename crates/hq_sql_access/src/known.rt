@@ -1,5 +1,5 @@
 //! What is known of conditions before a statement is walked.
-ghost use Rattle.std.specs.Prelude.{◌≡◌, ◌+◌, ◌≤◌, List as Items, map, IfSome};
+ghost use Rattle.std.specs.Prelude.{◌+◌, ◌≤◌, List as Items, map, IfSome};
 ghost use Rattle.hq_sql_conjuncts.specs.Conjuncts.{lent_weight};
 ghost use Rattle.hq_sql_conjuncts.specs.Weight.{filter_weight};
 ghost use Rattle.hq_sql_tree.specs.Meaning.{NamedRow};

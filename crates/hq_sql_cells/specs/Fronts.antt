@@ -1,5 +1,5 @@
 -- Fronts of texts: numbers by whose order most texts are told apart.
-use Rattle.std.specs.Prelude.{◌≡◌, ◌<◌, ℕ, zero, suc, ◌+◌, ◌*◌, slice_index_or, List, [], ◌∷◌, Option, Some, None, cond, Bool}
+use Rattle.std.specs.Prelude.{◌<◌, ℕ, zero, suc, ◌+◌, ◌*◌, slice_index_or, List, [], ◌∷◌, Option, Some, None, cond, Bool}
 use Rattle.std.specs.declared.cmp.Ordering.{Ordering}
 use Rattle.std.specs.declared.cmp.Ordering.TheVariants.{Equal}
 use Rattle.std.specs.Ordering.{nat_cmp}

@@ -1,6 +1,5 @@
 //! Cells as a set of those that were seen holds them: what tells two cells apart, and no more.
 ghost use Rattle.std.specs.Prelude.{◌≡◌, IfOk, map};
-ghost use Rattle.hq_sql_cells.specs.View.{cell_view};
 ghost use Rattle.hq_sql_cells.specs.Seen.{seen_of};
 
 use crate::Cell;

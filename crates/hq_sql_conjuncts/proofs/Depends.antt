@@ -3,13 +3,12 @@ use Rattle.std.proofs.Common.{◌≡◌, ℕ, List, [], ◌∷◌, map, flat_map
 use Rattle.std.specs.Prelude.{bytes_eq, codes}
 use Rattle.std.proofs.lemmas.Bool.{and_parts, false≢true}
 use Rattle.hq_base.specs.Cells as cell
-use Rattle.hq_base.specs.Cells.{CellTree}
 use Rattle.hq_base.specs.Lists.{sort, put}
 use Rattle.hq_model.specs.Logic.{is_true, truth_of, not3, and3, or3}
 use Rattle.hq_model.specs.Tests.{test_truth}
 use Rattle.hq_sql_tree.specs.Meaning.{NamedRow, Scope, World, nothing, with_alias, cell_named, value, rows_named, order_cmp, outputs, has_rows, rows_of, scopes_of, joined, kept, truth_at, all_true, any_true, distinct_on}
 use Rattle.hq_sql_tree.specs.Tree as tree
-use Rattle.hq_sql_tree.specs.Tree.{ExprTree, OutTree, OrderTree, SelectTree, FromTree, JoinTrees, FilterTree, PredTree, PredTrees}
+use Rattle.hq_sql_tree.specs.Tree.{ExprTree, OutTree, OrderTree, SelectTree, FromTree, FilterTree, PredTree, PredTrees}
 use Rattle.hq_sql_conjuncts.specs.Closed.{is_named, is_bound, are_bound, is_closed, are_closed, is_closed_select, is_closed_filter, is_simple, alias_of}
 use Rattle.hq_sql_conjuncts.specs.Alike.{AgreeAt}
 

@@ -1,5 +1,5 @@
 //! The conjuncts of a condition: those that mention no alias but these, and the others.
-ghost use Rattle.std.specs.Prelude.{◌≡◌, map, OnOk};
+ghost use Rattle.std.specs.Prelude.{map, OnOk};
 ghost use Rattle.hq_sql_tree.specs.View.{pred_view};
 ghost use Rattle.hq_sql_conjuncts.specs.Named.{names_view};
 ghost use Rattle.hq_sql_conjuncts.specs.Weight.{total, pred_weight};

@@ -32,7 +32,7 @@ use Rattle.hq_sql_access.proofs.Asked.{named_first}
 use Rattle.hq_sql_access.proofs.NamedCells.{stored_row}
 use Rattle.hq_sql_tree.specs.Meaning.{NamedRow, Scope as Names, World, cell_named, joined, kept, named_row, truth_at, with_alias}
 use Rattle.hq_sql_tree.specs.Tree as tree
-use Rattle.hq_sql_tree.specs.Tree.{FilterTree, JoinTrees, PredTree}
+use Rattle.hq_sql_tree.specs.Tree.{JoinTrees, PredTree}
 use Rattle.hq_sql_tree.specs.View.{filter_view}
 use Rattle.hq_sql_constants.specs.Listed.{AsksOneOf, is_one_of}
 use Rattle.hq_sql_constants.specs.Patterns.{AsksLike, is_like}

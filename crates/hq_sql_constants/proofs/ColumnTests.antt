@@ -1,5 +1,5 @@
 -- Conditions that ask one column of a table for something that constants tell.
-use Rattle.std.proofs.Common.{◌≡◌, ◌∙◌, ◌<◌, ◌≤◌, ◌+◌, ℕ, zero, suc, List, [], ◌∷◌, ◌++◌, map, length, get_or, take, Bool, true, false, ◌||◌, ◌&&◌, cond, refl, sym, ap, ap₂, subst, add-one, arith}
+use Rattle.std.proofs.Common.{◌≡◌, ◌∙◌, ◌<◌, ◌≤◌, ◌+◌, ℕ, zero, suc, List, [], ◌∷◌, ◌++◌, map, length, get_or, take, Bool, true, false, ◌||◌, refl, sym, ap, ap₂, subst, add-one, arith}
 use Rattle.std.specs.List.{list_any}
 use Rattle.std.proofs.Math.Seq.{take-suc}
 use Rattle.std.proofs.lemmas.List.{map-append, take_all}
@@ -15,10 +15,8 @@ use Rattle.hq_model.specs.declared.truth.Truth.{Truth}
 use Rattle.hq_model.specs.declared.truth.Truth.TheVariants.{Yes, No, Unknown}
 use Rattle.hq_sql_cells.specs.View.{cell_view}
 use Rattle.hq_sql_cells.specs.declared.cell.Cell.{Cell}
-use Rattle.hq_sql_conjuncts.specs.Split.{kept_one}
 use Rattle.hq_sql_scans.specs.Links.{IsOwn}
-use Rattle.hq_sql_scans.proofs.Looked.{same_bytes}
-use Rattle.hq_sql_tree.specs.Meaning.{Scope as Names, World, any_true, named_row, nothing, truth_at, value, with_alias}
+use Rattle.hq_sql_tree.specs.Meaning.{Scope as Names, World, any_true, truth_at, value}
 use Rattle.hq_sql_tree.specs.Tree as tree
 use Rattle.hq_sql_tree.specs.Tree.{ExprTree, PredTree, preds_of}
 use Rattle.hq_sql_tree.specs.View.{expr_view, pred_view}

@@ -2,7 +2,6 @@
 use Rattle.std.proofs.Common.{◌≡◌, ◌∙◌, ◌<◌, ◌+◌, ℕ, List, [], ◌∷◌, ◌++◌, map, length, get_or, take, Bool, true, false, Option, None, Some, refl, sym, ap, ap₂, add-one}
 use Rattle.std.specs.Borrow.{Bor}
 use Rattle.std.specs.Global.{Vec}
-use Rattle.std.specs.List.{list_any}
 use Rattle.std.specs.Prelude.{IfSome}
 use Rattle.std.proofs.Math.Seq.{take-suc}
 use Rattle.std.proofs.lemmas.List.{map-append}
@@ -22,7 +21,7 @@ use Rattle.hq_sql_access.specs.declared.pinned.KeySet.{KeySet}
 use Rattle.hq_sql_access.proofs.Asked.{column_value}
 use Rattle.hq_sql_scans.specs.Links.{has_cell}
 use Rattle.hq_sql_scans.proofs.Linked.{and_true, equal_cell, equal_swapped, key_like}
-use Rattle.hq_sql_tree.specs.Meaning.{Scope as Names, World, cell_named, value}
+use Rattle.hq_sql_tree.specs.Meaning.{World, value}
 use Rattle.hq_sql_tree.specs.Tree.{PredTree}
 use Rattle.hq_sql_tree.specs.View.{expr_view}
 use Rattle.hq_sql_tree.specs.declared.expr.Expr.{Expr}

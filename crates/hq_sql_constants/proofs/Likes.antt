@@ -12,7 +12,7 @@ use Rattle.hq_sql_access.specs.Equations.{is_column}
 use Rattle.hq_sql_access.proofs.Asked.{all_member, column_value}
 use Rattle.hq_sql_tree.specs.Meaning.{cell_named, truth_at, value}
 use Rattle.hq_sql_tree.specs.Tree as tree
-use Rattle.hq_sql_tree.specs.Tree.{ExprTree, PredTree, preds_of}
+use Rattle.hq_sql_tree.specs.Tree.{ExprTree, preds_of}
 use Rattle.hq_sql_tree.specs.View.{pred_view}
 use Rattle.hq_sql_tree.specs.declared.select.Pred.{Pred}
 use Rattle.hq_sql_constants.specs.Patterns.{AsksLike, is_like}

@@ -1,11 +1,10 @@
 -- Tests that tell of a row of FROM whether WHERE keeps it.
-use Rattle.std.proofs.Common.{◌≡◌, ◌∙◌, ◌<◌, ◌≤◌, ◌+◌, ℕ, zero, suc, List, [], ◌∷◌, ◌++◌, map, filter, length, get_or, take, drop, Bool, true, false, ◌&&◌, cond, refl, sym, ap, ap₂, subst, add-one, arith}
+use Rattle.std.proofs.Common.{◌≡◌, ◌∙◌, ◌<◌, ◌≤◌, ◌+◌, ℕ, zero, suc, List, [], ◌∷◌, ◌++◌, filter, length, get_or, take, drop, Bool, true, false, ◌&&◌, cond, refl, sym, ap, ap₂, subst, add-one, arith}
 use Rattle.std.specs.Borrow.{Bor}
 use Rattle.std.specs.Global.{Vec}
 use Rattle.std.proofs.Math.Seq.{take-suc}
 use Rattle.std.proofs.lemmas.Bool.{and_parts, false≢true}
 use Rattle.std.proofs.lemmas.List.{at_drop_more, map-append, take_all}
-use Rattle.hq_base.specs.Lists.{Each}
 use Rattle.hq_base.proofs.Lists.{each_weaken}
 use Rattle.hq_model.specs.Database.{Row}
 use Rattle.hq_model.specs.declared.table.Column.{Column}

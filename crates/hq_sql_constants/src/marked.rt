@@ -1,5 +1,5 @@
 //! The places of the rows that have one of many constants in a column.
-ghost use Rattle.std.specs.Prelude.{◌≡◌, ◌<◌, ◌^◌, ◌++◌, ◌==◌, ℕ, [], ◌∷◌, false, true, filter, length, map, IfOk, IfSome, OnOk, slice_index_or};
+ghost use Rattle.std.specs.Prelude.{◌≡◌, ◌<◌, ◌^◌, ◌++◌, ◌==◌, ℕ, [], ◌∷◌, false, true, filter, length, IfOk, IfSome, OnOk, slice_index_or};
 ghost use Rattle.std.specs.List.{list_any};
 ghost use Rattle.hq_base.specs.Cells.{cell_of};
 ghost use Rattle.hq_load_index.specs.Grids.{rows_in};

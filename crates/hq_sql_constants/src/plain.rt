@@ -1,6 +1,6 @@
 //! Conditions that ask one column of a table for something that constants tell, or one of several such things: the column is found
 //! once, and they are tried at the values of the rows, without a scope.
-ghost use Rattle.std.specs.Prelude.{◌≡◌, ◌∷◌, [], true, map, IfOk, IfSome};
+ghost use Rattle.std.specs.Prelude.{◌≡◌, [], true, map, IfOk, IfSome};
 ghost use Rattle.hq_load_index.specs.Keys.{cell_in};
 ghost use Rattle.hq_sql_access.specs.Equations.{is_column};
 ghost use Rattle.hq_sql_cells.specs.View.{cell_view};

@@ -1,5 +1,5 @@
 //! The answer that a statement means.
-ghost use Rattle.std.specs.Prelude.{◌≡◌, ◌<◌, ◌≤◌, ℕ, length, List as Items, [], Some, true, cond, IfOk, slice_get, slice_index_or};
+ghost use Rattle.std.specs.Prelude.{◌≡◌, ◌<◌, ◌≤◌, ℕ, length, List as Items, [], Some, true, cond, IfOk, slice_get};
 ghost use Rattle.hq_answer.specs.Answers.{IsAnswer};
 ghost use Rattle.hq_model.specs.Database.{Row, are_rows};
 ghost use Rattle.hq_sql_tree.specs.View.{select_view};

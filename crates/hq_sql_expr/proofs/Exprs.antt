@@ -9,7 +9,7 @@ use Rattle.hq_base.specs.Aggregates.{all_aggregates}
 use Rattle.hq_sql_tree.specs.Word.{word_text, aggregate_word}
 use Rattle.hq_sql_tree.specs.Form.{is_text}
 use Rattle.hq_sql_tree.specs.Tree as tree
-use Rattle.hq_sql_tree.specs.Tree.{ExprTree, PairTree, AggTree, OrderTree, OutTree, pairs_of, orders_of}
+use Rattle.hq_sql_tree.specs.Tree.{ExprTree, PairTree, OrderTree, OutTree, pairs_of, orders_of}
 use Rattle.hq_sql_tree.specs.Spelling.{quoted, name_text, literal_text, separated, form_start, form_text, direction_word, expr_text, pair_text, order_text, out_text}
 use Rattle.hq_sql_expr.specs.declared.head.Head.{Head}
 use Rattle.hq_sql_expr.specs.declared.head.Head.TheVariants as head

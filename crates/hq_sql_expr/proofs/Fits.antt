@@ -1,7 +1,7 @@
 -- Expressions whose spelling opens at most so many parentheses at once, as one relation.
 use Rattle.std.proofs.Common.{◌≡◌, ℕ, zero, suc, true}
 use Rattle.hq_sql_tree.specs.Tree as tree
-use Rattle.hq_sql_tree.specs.Tree.{ExprTree, PairTree, PairTrees, AggTree, OrderTree, OrderTrees}
+use Rattle.hq_sql_tree.specs.Tree.{ExprTree, PairTrees, AggTree, OrderTrees}
 use Rattle.hq_sql_tree.specs.Form.{is_text, is_bigint}
 
 abbrev pub AtLeastOne : OrderTrees → Type 0

@@ -2,7 +2,7 @@
 use Rattle.std.proofs.Common.{◌≡◌, ℕ, zero, suc, ◌≤◌, Bool, true, false, ◌&&◌, List, [], ◌∷◌, map, refl, arith}
 use Rattle.std.specs.List.{AllByRecursion, list_all}
 use Rattle.hq_sql_tree.specs.Tree as tree
-use Rattle.hq_sql_tree.specs.Tree.{ExprTree, PairTree, PairTrees, AggTree, OrderTree, OrderTrees, OutTree}
+use Rattle.hq_sql_tree.specs.Tree.{ExprTree, PairTrees, AggTree, OrderTree, OrderTrees, OutTree}
 use Rattle.hq_sql_tree.specs.Form.{is_text, is_expr, are_pairs, is_agg, are_orders, expr_depth, pairs_depth, agg_depth, orders_depth, greatest, expr_fits, pairs_fit, agg_fits, orders_fit, out_fits, order_fits}
 use Rattle.hq_sql_expr.proofs.Fits.{FitsExpr, FitsPairs, FitsAgg, FitsOrders}
 use Rattle.hq_sql_expr.proofs.Exprs.{GoodOrder, GoodOut}

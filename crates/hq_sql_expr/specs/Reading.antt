@@ -11,7 +11,7 @@ use Rattle.hq_base.specs.Aggregates.{all_aggregates}
 use Rattle.hq_sql_tree.specs.Word.{word_text, aggregate_word}
 use Rattle.hq_sql_tree.specs.Form.{is_text, is_bigint}
 use Rattle.hq_sql_tree.specs.Tree as tree
-use Rattle.hq_sql_tree.specs.Tree.{ExprTree, PairTree, AggTree, OrderTree, OutTree, pairs_of, orders_of}
+use Rattle.hq_sql_tree.specs.Tree.{ExprTree, PairTree, OrderTree, OutTree, pairs_of, orders_of}
 use Rattle.hq_sql_expr.specs.declared.head.Head.{Head}
 use Rattle.hq_sql_expr.specs.declared.head.Head.TheVariants as head
 use Rattle.hq_sql_expr.specs.declared.refusal.ReadRefusal.{ReadRefusal}

@@ -1,5 +1,5 @@
 //! Reading expressions, sort keys and outputs, within so many parentheses.
-ghost use Rattle.std.specs.Prelude.{◌≡◌, List, ℕ, map};
+ghost use Rattle.std.specs.Prelude.{map};
 ghost use Rattle.hq_sql_tree.specs.View.{expr_view, order_view, out_view};
 ghost use Rattle.hq_sql_tree.specs.declared.word.Word.TheVariants as words;
 ghost use Rattle.hq_sql_expr.specs.Reading.{Reads, below, all_many, argument_with, order_with, expr_at, closed_exprs, out_with};

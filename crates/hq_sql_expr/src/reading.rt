@@ -1,5 +1,5 @@
 //! Reading expressions.
-ghost use Rattle.std.specs.Prelude.{◌≡◌, List, ℕ, map, Some};
+ghost use Rattle.std.specs.Prelude.{◌≡◌, map, Some};
 ghost use Rattle.hq_base.specs.Aggregates.{all_aggregates};
 ghost use Rattle.hq_sql_tree.specs.View.{expr_view, pair_view, order_view};
 ghost use Rattle.hq_sql_tree.specs.Word.{aggregate_word};

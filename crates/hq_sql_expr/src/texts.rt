@@ -1,5 +1,5 @@
 //! Reading fixed words, names, texts and numbers.
-ghost use Rattle.std.specs.Prelude.{◌≡◌, List, ℕ, option_map, ◌∷◌, []};
+ghost use Rattle.std.specs.Prelude.{◌≡◌, option_map, ◌∷◌, []};
 ghost use Rattle.hq_sql_tree.specs.View.{expr_view};
 ghost use Rattle.hq_sql_expr.specs.Reading.{Reads, after, strip, unquoted, text_from, quoted_at, name_at, text_at, int_from, literal_at, is_digit, leading_digits, after_digits, number_from, number_at};
 

@@ -1,7 +1,7 @@
 -- Rows whose keys differ, in the order of their keys from the last one on.
 use Rattle.std.proofs.Common.{◌≡◌, ◌∙◌, refl, sym, ap, ℕ, zero, suc, ◌+◌, ◌<◌, ◌≤◌, List, [], ◌∷◌, ◌++◌, reverse, Bool, true, false, cond, Ordering, Less, Equal, Greater, is_gt, is_eq, nat_lt, ◌^◌, not, ◌&&◌, length, get_or, arith}
 use Rattle.std.specs.Cmp.{IsTotalOrder}
-use Rattle.std.specs.Ordering.{flip_args, ordering_reverse}
+use Rattle.std.specs.Ordering.{flip_args}
 use Rattle.std.proofs.lemmas.List.{reverse-append}
 use Rattle.std.proofs.lemmas.Cmp.{upto}
 use Rattle.hq_base.specs.Lists.{Each, Before, Ascends, put, sort}

@@ -1,6 +1,5 @@
 -- Sort keys behind those of a unique key.
-use Rattle.std.proofs.Common.{◌≡◌, ◌∙◌, ◌==◌, refl, sym, ap, ap₂, subst, ℕ, ◌<◌, ◌≤◌, List, [], ◌∷◌, ◌++◌, length, get_or, map, take, drop, append-nil, Bool, true, false, ⊎_elim, Ordering, Less, Equal, Greater, is_eq, bytes_eq, arith}
-use Rattle.std.specs.Cmp.{IsTotalOrder}
+use Rattle.std.proofs.Common.{◌≡◌, ◌∙◌, ◌==◌, refl, sym, ap, ap₂, subst, ℕ, List, [], ◌∷◌, ◌++◌, length, get_or, map, take, drop, append-nil, Bool, true, false, ⊎_elim, Ordering, Less, Equal, Greater, is_eq, arith}
 use Rattle.std.specs.Ordering.{ordering_then}
 use Rattle.std.proofs.lemmas.Bool.{cases_lt, false≢true, ne_eqb}
 use Rattle.std.proofs.lemmas.Cmp.{tied_itself}
@@ -8,7 +7,6 @@ use Rattle.std.proofs.lemmas.List.{map-append, take-append-drop}
 use Rattle.hq_base.specs.Cells.{CellTree, key_cmp}
 use Rattle.hq_base.proofs.Orders.{key_cmp_total}
 use Rattle.hq_load_index.specs.Indexes.{by_key, key_at}
-use Rattle.hq_load_index.specs.Keys.{has_null, keys_cmp}
 use Rattle.hq_load_index.specs.Repeats.{KeysDiffer}
 use Rattle.hq_load_index.proofs.Sorted.{by_key_total}
 use Rattle.hq_model.specs.Database.{Row}

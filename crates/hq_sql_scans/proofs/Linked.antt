@@ -1,5 +1,5 @@
 -- What conditions ask the columns of an alias to equal, exactly.
-use Rattle.std.proofs.Common.{◌≡◌, ◌<◌, ◌+◌, ℕ, zero, suc, List, [], ◌∷◌, ◌++◌, map, length, length-append, get_or, take, Bool, true, false, not, ◌&&◌, ◌||◌, cond, Some, Ordering, Less, Equal, Greater, is_eq, bytes_eq, refl, sym, ap, ap₂, subst, ◌∙◌, add-one, arith}
+use Rattle.std.proofs.Common.{◌≡◌, ◌<◌, ◌+◌, ℕ, suc, List, [], ◌∷◌, ◌++◌, map, length, length-append, get_or, take, Bool, true, false, not, ◌&&◌, ◌||◌, cond, Some, Ordering, Less, Equal, Greater, is_eq, bytes_eq, refl, sym, ap, ap₂, ◌∙◌, add-one, arith}
 use Rattle.std.specs.Borrow.{Bor}
 use Rattle.std.specs.Cmp.Lexicographic.{slice_cmp}
 use Rattle.std.specs.List.{position}
@@ -20,12 +20,12 @@ use Rattle.hq_sql_conjuncts.specs.Conjuncts.{all_kept, lent_views}
 use Rattle.hq_sql_conjuncts.specs.Split.{kept_one}
 use Rattle.hq_sql_conjuncts.proofs.Conjuncts.{all_append}
 use Rattle.hq_sql_tree.specs.Tree as tree
-use Rattle.hq_sql_tree.specs.Tree.{ExprTree, PredTree, no_join}
+use Rattle.hq_sql_tree.specs.Tree.{ExprTree, no_join}
 use Rattle.hq_sql_tree.specs.View.{expr_view, pred_view}
 use Rattle.hq_sql_tree.specs.declared.expr.ColumnForm.{ColumnForm}
 use Rattle.hq_sql_tree.specs.declared.expr.Expr.{Expr}
 use Rattle.hq_sql_tree.specs.declared.select.Pred.{Pred}
-use Rattle.hq_sql_tree.specs.Meaning.{Scope as Names, World, cell_named, named_row, value, truth_at, with_alias}
+use Rattle.hq_sql_tree.specs.Meaning.{Scope as Names, World, cell_named, named_row, value, with_alias}
 use Rattle.hq_sql_access.specs.Equations.{is_column, is_outer, key_cell, IsEquation}
 use Rattle.hq_sql_access.specs.KeySets.{link_keys}
 use Rattle.hq_sql_scans.specs.Links.{has_cell, IsOwn, IsLink, AreLinks}

@@ -17,7 +17,7 @@ use Rattle.hq_load_index.specs.Indexes.{counted, rows_with}
 use Rattle.hq_load_index.specs.Keys.{has_key}
 use Rattle.hq_load_index.proofs.Counted.{length-counted, counted_at}
 use Rattle.hq_sql_tree.specs.Tree as tree
-use Rattle.hq_sql_tree.specs.Tree.{SelectTree, JoinTrees, PredTree}
+use Rattle.hq_sql_tree.specs.Tree.{JoinTrees, PredTree}
 use Rattle.hq_sql_tree.specs.Meaning.{NamedRow, Scope as Names, World, with_alias, named_row, or_null_row, rows_of, joined, kept, truth_at}
 use Rattle.hq_sql_access.specs.Equations.{is_joined, IsAround, AsksKey}
 use Rattle.hq_sql_scans.specs.Positions.{kept_of}

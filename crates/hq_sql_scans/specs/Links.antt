@@ -1,5 +1,5 @@
 -- What conditions ask the columns of an alias to equal, exactly.
-use Rattle.std.specs.Prelude.{◌≡◌, ℕ, List, [], map, length, Bool, true, not, ◌&&◌}
+use Rattle.std.specs.Prelude.{◌≡◌, ℕ, List, [], length, Bool, not, ◌&&◌}
 use Rattle.std.specs.Borrow.{Bor}
 use Rattle.std.specs.Ordering.{is_eq}
 use Rattle.hq_base.specs.Cells.{CellTree, cell_cmp}

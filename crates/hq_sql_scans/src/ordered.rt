@@ -1,6 +1,6 @@
 //! The places at which a scan looks, in the order that ORDER BY asks for where an index has it.
-ghost use Rattle.std.specs.Prelude.{◌≡◌, ◌<◌, ◌∷◌, ℕ, [], true, false, map, length, IfOk, IfSome, slice_index_or};
-ghost use Rattle.hq_load_index.specs.Indexes.{IsOver, columns_of};
+ghost use Rattle.std.specs.Prelude.{◌≡◌, ◌<◌, ◌∷◌, [], true, false, map, length, IfOk, IfSome};
+ghost use Rattle.hq_load_index.specs.Indexes.{IsOver};
 ghost use Rattle.hq_load_index.specs.declared.index.Index.{Index};
 ghost use Rattle.hq_model.specs.Database.{are_rows};
 ghost use Rattle.hq_sql_tree.specs.Tree.{FilterTree, joins_of};

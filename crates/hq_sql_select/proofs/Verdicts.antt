@@ -1,5 +1,5 @@
 -- How what tests tell of a row is used.
-use Rattle.std.proofs.Common.{◌≡◌, ◌∙◌, ℕ, List, [], ◌∷◌, ◌++◌, map, filter, Bool, true, cond, Option, append-nil, refl, sym, ap}
+use Rattle.std.proofs.Common.{◌≡◌, ◌∙◌, ℕ, List, [], ◌∷◌, ◌++◌, filter, true, cond, Option, append-nil, sym, ap}
 use Rattle.std.specs.Global.{Vec}
 use Rattle.hq_sql_access.specs.View.{beside, joined_view, place_of, world_of}
 use Rattle.hq_sql_access.specs.declared.pinned.Pinned.{Pinned}
@@ -8,7 +8,6 @@ use Rattle.hq_sql_access.specs.declared.row.Made.{Made}
 use Rattle.hq_sql_constants.specs.Sieves.{Tells}
 use Rattle.hq_sql_constants.specs.declared.sieve.Verdict.{Verdict}
 use Rattle.hq_sql_constants.specs.declared.sieve.Verdict.TheVariants.{Kept, Dropped, Open}
-use Rattle.hq_sql_select.specs.Gathered.{Gathers}
 use Rattle.hq_sql_select.specs.Selected.{Adds, Told}
 use Rattle.hq_sql_tree.specs.Meaning.{NamedRow, Scope as Names, joined, kept, with_alias}
 use Rattle.hq_sql_tree.specs.Tree.{JoinTrees, no_join}

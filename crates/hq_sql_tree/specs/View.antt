@@ -12,7 +12,7 @@ use Rattle.hq_sql_tree.specs.declared.select.Pred.{Pred, fold-Pred}
 use Rattle.hq_sql_tree.specs.declared.select.Select.{Select, fold-Select}
 use Rattle.hq_sql_tree.specs.declared.select.Join.{Join, fold-Join}
 use Rattle.hq_sql_tree.specs.Tree as tree
-use Rattle.hq_sql_tree.specs.Tree.{ExprTree, PairTree, PairTrees, AggTree, OrderTree, OrderTrees, OutTree, SelectTree, FromTree, JoinTree, JoinTrees, FilterTree, PredTree, PredTrees, pairs_of, orders_of, joins_of, preds_of}
+use Rattle.hq_sql_tree.specs.Tree.{ExprTree, PairTree, AggTree, OrderTree, OutTree, SelectTree, FromTree, JoinTree, FilterTree, PredTree, pairs_of, orders_of, joins_of, preds_of}
 
 -- ---- expressions: one level, whose parts are seen already
 

@@ -1,5 +1,5 @@
 -- A typed request is of its catalog: its columns, relationships and tables are there, and its values and sorts are of their kinds.
-use Rattle.std.proofs.Common.{◌≡◌, ℕ, ◌≤◌, ◌^◌, List, [], ◌∷◌, map, length, true, Some, None, refl, sym, subst}
+use Rattle.std.proofs.Common.{◌≡◌, ℕ, ◌≤◌, ◌^◌, List, [], ◌∷◌, map, length, true, Some, None, sym, subst}
 use Rattle.std.specs.Prelude.{bytes_eq}
 use Rattle.std.specs.List.{list_all}
 use Rattle.std.proofs.lemmas.Bool.{and_parts}
@@ -23,7 +23,7 @@ use Rattle.hq_request_tree.specs.Conditions as fit
 use Rattle.hq_request_tree.specs.Conditions.{is_key, is_summary, FieldFits, PartFits}
 use Rattle.hq_request_tree.specs.Everywhere.{Everywhere, Below, EveryPart, BelowPart}
 use Rattle.hq_request_tree.specs.ResponseKeys as response
-use Rattle.hq_request_tree.specs.ResponseKeys.{are_keys, TakenKeys, EachSummaryKeys, FieldKeys, PartKeys}
+use Rattle.hq_request_tree.specs.ResponseKeys.{are_keys, EachSummaryKeys, FieldKeys, PartKeys}
 use Rattle.hq_request_tree.specs.Uses.{UsesColumns, UsesPath, UsesSorts, UsesOrigin, UsesOneSummary, UsesSummary, UsesHere, UsesPart}
 use Rattle.hq_request_tree.specs.Fields.{Origin, from_table, along, FieldTrees, no_field, field, FieldTree, column, typename, no_queries, object, list, by_key, aggregate, introspect, PartTrees, no_part, part, PartTree, summary, nodes, part_typename}
 use Rattle.hq_request_tree.specs.Resolve.{origin_table}

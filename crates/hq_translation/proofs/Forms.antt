@@ -32,7 +32,7 @@ use Rattle.hq_request_tree.specs.declared.aggregate.KeyedAggField.{KeyedAggField
 use Rattle.hq_sql_tree.specs.declared.expr.ColumnForm.{ColumnForm}
 use Rattle.hq_sql_tree.specs.declared.expr.ColumnForm.TheVariants.{Plain}
 use Rattle.hq_sql_tree.specs.Tree as tree
-use Rattle.hq_sql_tree.specs.Tree.{ExprTree, AggTree, PairTree, OrderTree, OutTree, SelectTree, JoinTree, JoinTrees, FilterTree, PredTree, pred_list, preds_of, joins_of, pairs_of, orders_of}
+use Rattle.hq_sql_tree.specs.Tree.{ExprTree, PairTree, OrderTree, OutTree, JoinTree, JoinTrees, FilterTree, PredTree, pred_list, preds_of, joins_of, pairs_of, orders_of}
 use Rattle.hq_sql_tree.specs.Form.{is_expr, are_pairs, is_agg, are_orders, holds_agg, hold_agg, is_lone_agg, is_select, are_joins, is_filter, is_pred, are_preds}
 use Rattle.hq_translation.specs.Names.{table_alias, fold_alias, value_name, unit_name}
 use Rattle.hq_translation.specs.Looks.{Look, own_look, cell_at, type_in}

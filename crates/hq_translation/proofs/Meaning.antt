@@ -2,7 +2,7 @@
 use Rattle.std.proofs.Common.{◌≡◌, ℕ, ◌+◌, ◌<◌, ◌≤◌, ◌^◌, List, [], ◌∷◌, ◌++◌, length, map, filter, Bool, true, false, cond, ◌&&◌, bytes_eq, Option, None, Some, refl, sym, ap, ap₂, ◌∙◌, arith}
 use Rattle.std.specs.Prelude.{slice_index_or, codes}
 use Rattle.hq_base.specs.Json.{JsonTree, arr, obj, elements_of, MemberTrees, member}
-use Rattle.hq_base.specs.Cells.{CellTree, cell_of, json, json_of, bool}
+use Rattle.hq_base.specs.Cells.{json, json_of, bool}
 use Rattle.hq_base.specs.Cells as cell
 use Rattle.hq_base.specs.Lists.{sort}
 use Rattle.hq_base.specs.declared.value.Val.{Val}
@@ -20,7 +20,7 @@ use Rattle.hq_model.specs.declared.table.Table.{Table}
 use Rattle.hq_request_tree.specs.Fields.{Origin, from_table, along, FieldTrees, no_field, field, FieldTree, column, typename, no_queries, object, list, by_key, aggregate, introspect, PartTrees, no_part, part, PartTree, summary, nodes, part_typename}
 use Rattle.hq_request_tree.specs.Resolve.{origin_table, origin_rows, shows_key, first_or_null, summary_members, resolve_all, resolve, resolve_parts, resolve_part}
 use Rattle.hq_sql_tree.specs.Tree as tree
-use Rattle.hq_sql_tree.specs.Tree.{JoinTree, joins_of, pairs_of, PredTree}
+use Rattle.hq_sql_tree.specs.Tree.{JoinTree, pairs_of, PredTree}
 use Rattle.hq_sql_tree.specs.Meaning.{NamedRow, cell_named, Scope, nothing, with_alias, World, value, members, outputs, order_cmp, or_null_row, first_value, rows_of, kept, truth_at}
 use Rattle.hq_translation.specs.GrantedTables.{rights_of}
 use Rattle.hq_translation.specs.Names.{table_alias, join_alias, value_name}

@@ -15,9 +15,9 @@ use Rattle.hq_request_tree.specs.Resolve.{origin_table}
 use Rattle.hq_request_tree.specs.ResponseKeys.{keys_of, part_keys}
 use Rattle.hq_request_tree.specs.declared.aggregate.KeyedAggField.{KeyedAggField}
 use Rattle.hq_sql_tree.specs.Tree as tree
-use Rattle.hq_sql_tree.specs.Tree.{ExprTree, PairTree, SelectTree, JoinTree, PredTree, joins_of, pairs_of}
+use Rattle.hq_sql_tree.specs.Tree.{ExprTree, SelectTree, JoinTree, PredTree, pairs_of}
 use Rattle.hq_sql_tree.specs.WellFormed as well
-use Rattle.hq_sql_tree.specs.WellFormed.{Aliases, Kind, kind, kind_at, kind_named, pair_names, is_value, is_member, are_values, is_compared, is_item, is_typed, select_names, is_typed_pred}
+use Rattle.hq_sql_tree.specs.WellFormed.{Aliases, kind, kind_at, pair_names, is_value, is_member, are_values, is_typed_pred}
 use Rattle.hq_translation.specs.Names.{table_alias, join_alias, value_name}
 use Rattle.hq_translation.specs.Looks.{Look, own_look, cell_at, shown_at, compared_at}
 use Rattle.hq_translation.specs.GrantedTables.{GrantedTables}

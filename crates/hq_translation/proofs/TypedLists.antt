@@ -10,7 +10,7 @@ use Rattle.hq_model.specs.declared.table.Table.{Table}
 use Rattle.hq_sql_tree.specs.Tree as tree
 use Rattle.hq_sql_tree.specs.Tree.{ExprTree, PairTree, OrderTree, OutTree, SelectTree, JoinTree, PredTree, joins_of, pairs_of, orders_of}
 use Rattle.hq_sql_tree.specs.WellFormed as well
-use Rattle.hq_sql_tree.specs.WellFormed.{Aliases, Names, Kind, kind_of_type, kind, kind_at, kind_named, pair_names, is_value, are_values, is_compared, are_keys, is_typed, select_names, out_names, joined_scope, are_typed_joins, is_typed_pred, same_expr, is_among, begin_with}
+use Rattle.hq_sql_tree.specs.WellFormed.{Aliases, Names, Kind, kind_at, kind_named, pair_names, is_value, are_values, is_compared, are_keys, is_typed, select_names, out_names, is_typed_pred, same_expr, is_among, begin_with}
 use Rattle.hq_sql_tree.proofs.Columns.{form_same}
 use Rattle.hq_translation.specs.Names.{fold_alias, value_name, key_name}
 use Rattle.hq_translation.specs.Looks.{Look, ColumnName, type_in, compared_form, is_used, own_look, cell_at, compared_at}

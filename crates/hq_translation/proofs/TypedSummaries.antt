@@ -20,9 +20,9 @@ use Rattle.hq_request_tree.specs.declared.aggregate.AggField.TheVariants as take
 use Rattle.hq_request_tree.specs.declared.aggregate.KeyedAggCol.{KeyedAggCol}
 use Rattle.hq_request_tree.specs.declared.aggregate.KeyedAggField.{KeyedAggField}
 use Rattle.hq_sql_tree.specs.Tree as tree
-use Rattle.hq_sql_tree.specs.Tree.{OutTree, SelectTree, JoinTree, PredTree, pairs_of}
+use Rattle.hq_sql_tree.specs.Tree.{OutTree, SelectTree, PredTree, pairs_of}
 use Rattle.hq_sql_tree.specs.WellFormed as well
-use Rattle.hq_sql_tree.specs.WellFormed.{Aliases, Names, Kind, kind_of_type, kind, kind_at, kind_named, pair_names, is_value, is_member, are_values, has_extremes, is_collated, is_folded, are_folded, is_typed, select_names, out_names, is_typed_pred}
+use Rattle.hq_sql_tree.specs.WellFormed.{Aliases, kind_of_type, kind, kind_at, kind_named, pair_names, is_value, is_member, are_values, has_extremes, is_collated, is_folded, are_folded, select_names, out_names, is_typed_pred}
 use Rattle.hq_sql_tree.specs.WellFormed.{is_taken}
 use Rattle.hq_translation.specs.Names.{table_alias, fold_alias, value_name, needed_name}
 use Rattle.hq_translation.specs.Looks.{Look, is_used, compared_form, cell_at}
@@ -31,7 +31,7 @@ use Rattle.hq_translation.specs.Masks.{shown_look}
 use Rattle.hq_translation.specs.Sorts.{used_sorts}
 use Rattle.hq_translation.specs.Predicates.{columns_in}
 use Rattle.hq_translation.specs.Lists.{once, list_sorts, list_numbers, children_from, list_rows}
-use Rattle.hq_translation.specs.Aggregates.{add_column, add_columns, add_field, needed, place_of, some_taken, is_aggregate, some_aggregate, needed_cell, taken_value, taken_pairs, count_value, summary_value, summary_pairs, needed_columns, needed_outputs, summary_used, summary_numbers, folded_select, plain_select, summary_select}
+use Rattle.hq_translation.specs.Aggregates.{add_column, add_columns, add_field, needed, place_of, some_taken, is_aggregate, some_aggregate, taken_value, taken_pairs, summary_value, summary_pairs, needed_columns, needed_outputs, summary_used, summary_numbers, folded_select, plain_select, summary_select}
 use Rattle.hq_translation.specs.Aggregates as sums
 use Rattle.hq_translation.specs.Fine.{Has, type_of, kind_of, Known, FineArguments, FineTaken, FineSummary, FineSummaries}
 use Rattle.hq_translation.proofs.CatalogTables.{FineTables}

@@ -1,5 +1,5 @@
 -- The select of a list: the array of its rows' objects in order.
-use Rattle.std.specs.Prelude.{ℕ, ◌+◌, List, [], ◌∷◌, ◌++◌, Option, false}
+use Rattle.std.specs.Prelude.{ℕ, ◌+◌, List, [], ◌∷◌, ◌++◌, Option}
 use Rattle.hq_model.specs.Bexp.{BexpTree}
 use Rattle.hq_translation.specs.GrantedTables.{GrantedTables}
 use Rattle.hq_model.specs.Schema.{Schema, table}

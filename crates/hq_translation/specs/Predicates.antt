@@ -10,7 +10,7 @@ use Rattle.hq_model.specs.declared.meta.Rel.{Rel}
 use Rattle.hq_model.specs.declared.op.Op.TheVariants.{Eq}
 use Rattle.hq_model.specs.declared.table.Column.{Column}
 use Rattle.hq_sql_tree.specs.Tree as tree
-use Rattle.hq_sql_tree.specs.Tree.{ExprTree, OutTree, SelectTree, JoinTree, joins_of, PredTree}
+use Rattle.hq_sql_tree.specs.Tree.{ExprTree, SelectTree, JoinTree, joins_of, PredTree}
 use Rattle.hq_translation.specs.Names.{table_alias, unit_name}
 use Rattle.hq_translation.specs.Looks.{Look, own_look, compared_at, tested_at, type_in}
 use Rattle.hq_translation.specs.Conditions.{joined_by_and, joined_by_or, with_member, where_of, test_of}

@@ -1,4 +1,4 @@
-ghost use Rattle.std.specs.Prelude.{◌≡◌, IsNone, None, Some};
+ghost use Rattle.std.specs.Prelude.{◌≡◌, None, Some};
 
 use crate::WsMessages;
 use hq_io::count_fault;

@@ -4,7 +4,7 @@ ghost use Rattle.std.specs.Prelude.{◌≡◌};
 ghost use Rattle.csv.specs.Machine.{in_field, start_field, start_record};
 ghost use Rattle.csv.specs.Reading.{default_config, is_bom, strip_bom};
 ghost use Rattle.csv.specs.declared.parser.State.TheVariants as st;
-ghost use Rattle.hq_load_tables.specs.Unclosed.{ends_inside, is_quoted, state_after, state_behind, state_of};
+ghost use Rattle.hq_load_tables.specs.Unclosed.{ends_inside, state_after, state_behind, state_of};
 
 /// Where csv's reader stands, by its defaults.
 #[derive(Clone, Copy)]

@@ -1,8 +1,7 @@
-use Rattle.std.proofs.Common.{◌≡◌, ◌∙◌, ◌∷◌, ◌++◌, [], ap, sym}
-use Rattle.hq_base.specs.declared.pattern.Step.TheVariants.{Any}
+use Rattle.std.proofs.Common.{◌≡◌, ◌∙◌, ◌++◌, [], ap, sym}
 use Rattle.hq_like.specs.Parts.{behind_any, joined}
 use Rattle.hq_like.specs.Places.{places_view}
-use Rattle.hq_like.specs.Segments.{IsSegment, tail_then, with_segment}
+use Rattle.hq_like.specs.Segments.{tail_then, with_segment}
 use Rattle.hq_like.specs.Signs.{signs_view}
 use Rattle.hq_like.proofs.Parted.{joined_more}
 use Rattle.hq_like.proofs.parts.segments.Goals as goal

@@ -1,4 +1,4 @@
-use Rattle.std.proofs.Common.{◌≡◌, ◌∙◌, ◌≤◌, ◌<◌, None, Some, length, sym, arith}
+use Rattle.std.proofs.Common.{◌∙◌, ◌≤◌, ◌<◌, None, Some, length, sym, arith}
 use Rattle.hq_like.specs.Reading.{read}
 use Rattle.hq_like.proofs.Searches.{text_short, text_end}
 use Rattle.hq_like.proofs.places.ends.Goals as goal

@@ -1,7 +1,6 @@
 use Rattle.std.proofs.Common.{◌≡◌, List, false, length}
 use denote.Text.{Utf8}
 use denote.Shadow.{shadow}
-use Rattle.std.specs.Str.{chars}
 use Rattle.hq_base.specs.Patterns.{meets, some_end}
 use Rattle.hq_base.specs.declared.pattern.Step.{Step}
 use Rattle.hq_like.specs.Reading.{read}

@@ -1,6 +1,6 @@
 use Rattle.std.proofs.Common.{◌≡◌, ◌∙◌, ◌++◌, ◌∷◌, [], ap, sym, subst}
 use Rattle.hq_like.specs.Signs.{Adds}
-use Rattle.hq_like.specs.declared.signs.Sign.TheVariants.{Any, One}
+use Rattle.hq_like.specs.declared.signs.Sign.TheVariants.{Any}
 use Rattle.hq_like.proofs.Steps.{added_any, added_one}
 use Rattle.hq_like.proofs.signs.add.Goals as goal
 

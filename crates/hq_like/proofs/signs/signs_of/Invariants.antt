@@ -1,4 +1,4 @@
-use Rattle.std.proofs.Common.{◌≡◌, ℕ, List, ◌++◌, length, map, false, option_map}
+use Rattle.std.proofs.Common.{◌≡◌, ℕ, List, ◌++◌, length, map, false}
 use Rattle.std.specs.Option.{option_map_or}
 use denote.Text.{Utf8}
 use denote.Shadow.{shadow}

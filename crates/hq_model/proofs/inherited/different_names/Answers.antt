@@ -1,4 +1,4 @@
-use Rattle.std.proofs.Common.{◌∙◌, ap, sym, ◌∷◌, ◌++◌, ◌+◌, drop, filter, bytes_eq}
+use Rattle.std.proofs.Common.{◌∙◌, ap, sym, ◌++◌, ◌+◌, drop, filter, bytes_eq}
 use Rattle.hq_base.specs.Lists.{firsts}
 use Rattle.hq_base.proofs.Loops.{next_item}
 use Rattle.hq_model.proofs.Joining.{is_new, seen_none, seen_more}

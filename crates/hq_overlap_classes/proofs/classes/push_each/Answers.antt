@@ -1,5 +1,4 @@
 -- One more set that is spread.
-use Rattle.std.proofs.Common.{ℕ}
 use Rattle.hq_overlap_sets.specs.Pairs.{spreads_at}
 use Rattle.hq_overlap_sets.specs.Sets.{arena_view}
 use Rattle.hq_overlap_sets.proofs.Stepping.{stands_in}

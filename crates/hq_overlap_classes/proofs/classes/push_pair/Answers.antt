@@ -1,5 +1,5 @@
 -- One more pair.
-use Rattle.std.proofs.Common.{sym, subst, List}
+use Rattle.std.proofs.Common.{sym, subst}
 use Rattle.std.specs.List.{All}
 use Rattle.std.proofs.lemmas.List.Elements.{All-push}
 use Rattle.hq_overlap_sets.specs.declared.sets.Pair.{Pair}

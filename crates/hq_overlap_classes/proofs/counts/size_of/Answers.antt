@@ -1,5 +1,5 @@
 -- What the set counts.
-use Rattle.std.proofs.Common.{ap, length, arith, map}
+use Rattle.std.proofs.Common.{ap, length, arith}
 use Rattle.std.proofs.lemmas.List.{length-map}
 use Rattle.hq_overlap_sets.specs.Pairs.{fields_in, spreads_in}
 use Rattle.hq_overlap_sets.specs.Sets.{field_in}

@@ -2,7 +2,6 @@
 use Rattle.std.proofs.lemmas.List.Elements.{All-get_or}
 use Rattle.hq_overlap_sets.specs.Sets.{arena_view}
 use Rattle.hq_overlap_classes.specs.Classes.{AtFault}
-use Rattle.hq_overlap_classes.proofs.Joining.{none_marked}
 use Rattle.hq_overlap_classes.proofs.leading.marks_of.Goals as goal
 
 pub mark-requires-clause-marks : goal.mark-requires-clause-marks

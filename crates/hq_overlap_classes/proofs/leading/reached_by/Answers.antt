@@ -1,5 +1,4 @@
 -- What classes at fault lead to is at fault.
-use Rattle.std.proofs.Common.{◌∙◌}
 use Rattle.hq_overlap_sets.specs.Sets.{arena_view}
 use Rattle.hq_overlap_classes.proofs.ReachLemmas.{all_reached}
 use Rattle.hq_overlap_classes.proofs.leading.reached_by.Goals as goal

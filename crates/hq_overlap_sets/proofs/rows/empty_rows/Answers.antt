@@ -1,7 +1,6 @@
 -- One more row.
-use Rattle.std.proofs.Common.{rules, ◌≡◌, sym, subst, List}
-use Rattle.std.specs.Prelude.{Vec}
-use Rattle.hq_overlap_sets.proofs.RowLemmas.{NoneIn, no_rows, none_more}
+use Rattle.std.proofs.Common.{rules, sym, subst}
+use Rattle.hq_overlap_sets.proofs.RowLemmas.{NoneIn, none_more}
 use Rattle.hq_overlap_sets.proofs.rows.empty_rows.Goals as goal
 
 pub loop-preserved : goal.loop-preserved

@@ -1,4 +1,4 @@
-use Rattle.std.proofs.Common.{◌≡◌, ◌∙◌, ap, sym, map, length, List, Ok}
+use Rattle.std.proofs.Common.{◌∙◌, ap, sym, map, length, List, Ok}
 use Rattle.hq_request_build.proofs.Steps.{first_stops, second_stops, third_stops, fourth_stops, all_given}
 use Rattle.hq_request_build.specs.Due.{operation_of, collected_due, root_due, bound_in, build_due}
 use Rattle.hq_request_tree.specs.Fields.{FieldTrees, fields_of, keyed_field_view}

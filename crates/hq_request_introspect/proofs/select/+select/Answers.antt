@@ -1,4 +1,3 @@
-use Rattle.std.proofs.Common.{map}
 use Rattle.hq_schema.specs.Schema.{schema_view}
 use Rattle.hq_request_introspect.specs.Selections.{object_of}
 use Rattle.hq_request_introspect.specs.Views.{node_view, fields_view}

@@ -1,5 +1,5 @@
 -- The field at the place.
-use Rattle.std.proofs.Common.{map, sym}
+use Rattle.std.proofs.Common.{sym}
 use Rattle.hq_overlap_sets.specs.Sets.{field_in}
 use Rattle.hq_overlap_sets.proofs.ArenaLemmas.{get_map}
 use Rattle.hq_rules_overlap.proofs.below.is_key_at.Goals as goal

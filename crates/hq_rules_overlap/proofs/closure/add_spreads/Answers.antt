@@ -2,7 +2,6 @@
 use Rattle.std.proofs.Common.{◌∙◌, ap, sym, subst, List, ℕ}
 use Rattle.std.specs.Result.{OnOk}
 use Rattle.hq_overlap_sets.specs.Pairs.{spreads_in}
-use Rattle.hq_overlap_sets.specs.Sets.{arena_view}
 use Rattle.hq_overlap_sets.proofs.ArenaLemmas.{set_here, no_set}
 use Rattle.hq_rules_overlap.specs.Groups.{Grows}
 use Rattle.hq_rules_overlap.proofs.Growth.{grows_nothing}

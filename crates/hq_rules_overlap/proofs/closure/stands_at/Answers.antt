@@ -1,5 +1,5 @@
 -- The number that was found.
-use Rattle.std.proofs.Common.{◌∙◌, ap, sym, Some}
+use Rattle.std.proofs.Common.{sym}
 use Rattle.std.proofs.lemmas.Bool.{eqb-true}
 use Rattle.hq_rules_overlap.proofs.Growth.{contains_at}
 use Rattle.hq_rules_overlap.proofs.closure.stands_at.Goals as goal

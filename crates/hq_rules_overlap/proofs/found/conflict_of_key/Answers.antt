@@ -1,5 +1,5 @@
 -- A place that is given is that of a conflict.
-use Rattle.std.proofs.Common.{◌∙◌, ap, sym, refl, subst}
+use Rattle.std.proofs.Common.{◌∙◌, ap, sym, subst}
 use Rattle.hq_gql_nodes.specs.Least.{at_if}
 use Rattle.hq_overlap_sets.specs.Sets.{field_in, arena_view}
 use Rattle.hq_overlap_sets.specs.Together.{AreConflicts}

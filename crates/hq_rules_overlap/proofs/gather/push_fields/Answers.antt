@@ -1,5 +1,5 @@
 -- The set of the number, if there is one.
-use Rattle.std.proofs.Common.{◌≡◌, ◌∙◌, ◌++◌, ap, sym, refl, List, map}
+use Rattle.std.proofs.Common.{◌∙◌, ◌++◌, ap, sym, List, map}
 use Rattle.std.proofs.lemmas.List.{map-append}
 use Rattle.std.proofs.lemmas.Result.{on_ok_weaker}
 use Rattle.hq_overlap_sets.specs.Pairs.{fields_in}

@@ -1,5 +1,5 @@
 -- One more mark.
-use Rattle.std.proofs.Common.{◌≡◌, ◌⊎◌, inl, inr, refl, List, ℕ, subst, true}
+use Rattle.std.proofs.Common.{◌≡◌, ◌⊎◌, inl, refl, List, ℕ, subst, true}
 use Rattle.std.specs.List.{Contains}
 use Rattle.std.proofs.lemmas.List.{take_all}
 use Rattle.hq_rules_overlap.specs.Exploring.{is_marked}

@@ -1,10 +1,9 @@
 -- No list, and no mark that is set.
-use Rattle.std.proofs.Common.{rules, ◌≡◌, ◌∙◌, ap, sym, subst, length, List, ℕ, Bool, true, false, replicate, arith}
+use Rattle.std.proofs.Common.{rules, ap, sym, subst, length, arith}
 use Rattle.std.specs.List.{All}
 use Rattle.std.proofs.lemmas.List.Elements.{All-nil}
 use Rattle.hq_gql_nodes.specs.Reach.{graph_view}
 use Rattle.hq_overlap_sets.specs.Sets.{arena_view}
-use Rattle.hq_rules_overlap.specs.Exploring.{is_marked}
 use Rattle.hq_rules_overlap.specs.Groups.{AreTogether}
 use Rattle.hq_rules_overlap.proofs.Marks.{none_set}
 use Rattle.hq_rules_overlap.proofs.Places.{none_found}

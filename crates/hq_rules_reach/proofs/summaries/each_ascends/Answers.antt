@@ -1,4 +1,4 @@
-use Rattle.std.proofs.Common.{◌∙◌, sym, ap, subst, take, List, [], ◌∷◌, ◌++◌, Vec, Global, arith}
+use Rattle.std.proofs.Common.{◌∙◌, sym, ap, subst, take, [], ◌∷◌, ◌++◌, Vec, Global, arith}
 use Rattle.std.proofs.lemmas.List.{take_more, take_all}
 use Rattle.std.proofs.lemmas.List.Elements.{All-push}
 use Rattle.hq_rules_reach.specs.declared.uses.Use.{Use}

@@ -1,9 +1,8 @@
-use Rattle.std.proofs.Common.{◌≡◌, ◌∙◌, sym, ap, subst, map, take, List, [], ◌∷◌, ◌++◌, ◌+◌, refl, false, true, not, arith, rules}
-use Rattle.std.proofs.lemmas.List.{take_all, map-append}
+use Rattle.std.proofs.Common.{◌≡◌, sym, subst, map, take, List, [], ◌∷◌, ◌++◌, ◌+◌, true, arith, rules}
+use Rattle.std.proofs.lemmas.List.{take_all}
 use Rattle.std.proofs.lemmas.List.Elements.{All-push, All-get_or, All-nil}
-use Rattle.hq_gql_nodes.specs.Fragments.{Places}
 use Rattle.hq_rules_reach.specs.declared.uses.Use.{Use}
-use Rattle.hq_rules_reach.specs.Uses.{UseTree, use_view, IsNumbered}
+use Rattle.hq_rules_reach.specs.Uses.{use_view, IsNumbered}
 use Rattle.std.specs.List.{All}
 use Rattle.hq_rules_reach.specs.Summaries.{IsSummary, HasLike}
 use Rattle.hq_rules_reach.proofs.Summing.{summary_none, summary_kept, summary_more}

@@ -1,17 +1,15 @@
-use Rattle.std.proofs.Common.{◌≡◌, ◌∙◌, ◌+◌, ◌++◌, ap, sym, subst, refl, map, take, length, List, [], ◌∷◌, Vec, Global, ℕ, rules, arith}
+use Rattle.std.proofs.Common.{◌+◌, sym, subst, map, take, List, [], Vec, Global, rules, arith}
 use Rattle.std.proofs.lemmas.Grind.{common_steps}
 use Rattle.std.specs.List.{All}
-use Rattle.std.proofs.lemmas.List.{take_all}
-use Rattle.std.proofs.lemmas.List.Elements.{All-push, All-nil}
+use Rattle.std.proofs.lemmas.List.Elements.{All-push}
 use Rattle.hq_gql_nodes.specs.Names.{get_name}
 use Rattle.hq_gql_nodes.specs.declared.node.Node.{Node}
-use Rattle.hq_gql_nodes.specs.declared.parts.Part.{Part}
 use Rattle.hq_gql_nodes.specs.Nodes.{part_view, node_view}
 use Rattle.hq_rules_reach.specs.declared.uses.Use.{Use}
 use Rattle.hq_rules_reach.specs.Summaries.{IsSummary, AreSummaries}
 use Rattle.hq_rules_reach.specs.Uses.{IsNumbered, AreNumbered, use_view, uses_of, uses_view, all_uses}
 use Rattle.hq_rules_reach.proofs.ByNumber.{all_numbered_kept}
-use Rattle.hq_rules_reach.proofs.Summing.{summaries_more, summary_none}
+use Rattle.hq_rules_reach.proofs.Summing.{summaries_more}
 use Rattle.hq_rules_reach.proofs.uses.all_uses.Goals as goal
 
 pub loop-part-preserved : goal.loop-part-preserved

@@ -1,6 +1,5 @@
-use Rattle.std.proofs.Common.{◌∙◌, ap, sym, ℕ, List, cond, length, Option, Some, None}
+use Rattle.std.proofs.Common.{◌∙◌, ap, sym, ℕ, List, cond, Option, Some, None}
 use Rattle.std.specs.Option.{option_or}
-use Rattle.hq_gql_nodes.specs.Names.{get_name}
 use Rattle.hq_gql_nodes.proofs.Lists.{option_or_none}
 use Rattle.hq_rules_reach.specs.Fit.{is_number}
 use Rattle.hq_rules_reach.specs.Variables.{numbered_place}

@@ -1,4 +1,4 @@
-use Rattle.std.proofs.Common.{◌≡◌, ℕ, List, map, take, length}
+use Rattle.std.proofs.Common.{◌≡◌, ℕ, map, take, length}
 use Rattle.std.specs.List.{position_from}
 use Rattle.hq_gql_tree.specs.Documents.{var_def_view}
 use Rattle.hq_gql_nodes.specs.Names.{get_name}

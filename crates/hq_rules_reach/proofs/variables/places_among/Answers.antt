@@ -1,4 +1,4 @@
-use Rattle.std.proofs.Common.{◌∙◌, ap, ℕ, List, map, Vec, Global}
+use Rattle.std.proofs.Common.{◌∙◌, ap, List, map, Vec, Global}
 use Rattle.hq_schema.specs.Schema.{schema_view}
 use Rattle.hq_gql_tree.specs.Documents.{var_def_view}
 use Rattle.hq_gql_nodes.specs.Least.{earlier, least_of}

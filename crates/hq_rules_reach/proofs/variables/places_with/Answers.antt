@@ -1,4 +1,4 @@
-use Rattle.std.proofs.Common.{◌∙◌, ap, sym, subst, ℕ, List, Option, map}
+use Rattle.std.proofs.Common.{◌∙◌, sym, subst, ℕ, List, Option, map}
 use Rattle.hq_gql_tree.specs.Documents.{VarDefTree, var_def_view}
 use Rattle.hq_gql_nodes.specs.Names.{get_name}
 use Rattle.hq_rules_reach.specs.Fit.{is_number, ArePlaces}

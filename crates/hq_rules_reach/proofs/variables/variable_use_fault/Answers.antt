@@ -1,4 +1,4 @@
-use Rattle.std.proofs.Common.{◌≡◌, ◌∙◌, ap, sym, refl, ℕ, List, Option, Some, None}
+use Rattle.std.proofs.Common.{◌≡◌, ◌∙◌, ap, refl, ℕ, List, Option, Some, None}
 use Rattle.hq_schema.specs.Schema.{schema_view}
 use Rattle.hq_gql_tree.specs.Documents.{VarDefTree}
 use Rattle.hq_gql_tree.specs.View.{document_view}

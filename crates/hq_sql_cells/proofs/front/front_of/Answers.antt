@@ -1,6 +1,6 @@
-use Rattle.std.proofs.Common.{◌≡◌, ◌∙◌, ◌<◌, ◌≤◌, ◌+◌, ◌*◌, ◌-◌, suc, drop, get_or, sym, ap, arith}
+use Rattle.std.proofs.Common.{◌≡◌, ◌∙◌, ◌+◌, ◌*◌, ◌-◌, suc, drop, sym, ap, arith}
 use Rattle.hq_sql_cells.specs.Fronts.{digits, front_of}
-use Rattle.hq_sql_cells.proofs.Fronts.{digit_more, room, room_left, room_more}
+use Rattle.hq_sql_cells.proofs.Fronts.{digit_more, room_left, room_more}
 use Rattle.hq_sql_cells.proofs.front.front_of.Goals as goal
 
 pub overflow_mul-front : goal.overflow_mul-front

@@ -1,4 +1,4 @@
-use Rattle.std.proofs.Common.{◌≡◌, ◌∙◌, map, ap, sym, rules}
+use Rattle.std.proofs.Common.{◌∙◌, map, ap, sym, rules}
 use Rattle.std.specs.Ordering.{on}
 use Rattle.std.proofs.lemmas.Result.{IfOk-weaker}
 use Rattle.hq_base.specs.Lists.{sort}

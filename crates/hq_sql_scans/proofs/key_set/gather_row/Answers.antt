@@ -1,4 +1,4 @@
-use Rattle.std.proofs.Common.{◌≡◌, ◌∙◌, ◌++◌, ◌+◌, refl, ap}
+use Rattle.std.proofs.Common.{◌∙◌, ◌++◌, ◌+◌, refl, ap}
 use Rattle.hq_sql_scans.specs.ChosenKeys.{picked}
 use Rattle.hq_sql_scans.proofs.KeySets.{gathers_one, gathers_other}
 use Rattle.hq_sql_scans.proofs.key_set.gather_row.Goals as goal

@@ -1,4 +1,4 @@
-use Rattle.std.proofs.Common.{◌≡◌, ◌∙◌, length, refl, ap}
+use Rattle.std.proofs.Common.{◌≡◌, ◌∙◌, length, refl}
 use Rattle.hq_load_index.specs.Indexes.{columns_of, counted}
 use Rattle.hq_sql_tree.specs.View.{pred_view}
 use Rattle.hq_sql_access.specs.View.{world_of}

@@ -1,4 +1,4 @@
-use Rattle.std.proofs.Common.{rules, ◌≡◌, ◌∙◌, Bool, true, false, Some, bytes_eq, ap, sym, subst}
+use Rattle.std.proofs.Common.{rules, ◌≡◌, ◌∙◌, true, false, Some, bytes_eq, ap, sym, subst}
 use Rattle.std.specs.List.{position}
 use Rattle.hq_sql_tree.specs.View.{expr_view, order_view}
 use Rattle.hq_sql_tree.specs.declared.expr.Order.{the_lemmas as order_lemmas}

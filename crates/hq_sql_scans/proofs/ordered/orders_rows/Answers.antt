@@ -1,4 +1,4 @@
-use Rattle.std.proofs.Common.{◌≡◌, ◌∙◌, sym}
+use Rattle.std.proofs.Common.{◌∙◌, sym}
 use Rattle.hq_sql_scans.proofs.Behind.{rows_alone, rows_behind}
 use Rattle.hq_sql_scans.proofs.ordered.orders_rows.Goals as goal
 

@@ -1,4 +1,4 @@
-use Rattle.std.proofs.Common.{◌≡◌, ◌∙◌, length, sym, arith}
+use Rattle.std.proofs.Common.{◌∙◌, sym, arith}
 use Rattle.hq_sql_scans.proofs.InOrder.{standing_none, standing_some}
 use Rattle.hq_sql_scans.proofs.ordered.standing.Goals as goal
 

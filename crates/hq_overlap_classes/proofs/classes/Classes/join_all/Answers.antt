@@ -1,8 +1,5 @@
 -- One more pair is joined.
-use Rattle.std.proofs.lemmas.List.Elements.{All-pop}
-use Rattle.hq_overlap_sets.specs.declared.sets.Pair.{Pair}
 use Rattle.hq_overlap_sets.specs.Sets.{arena_view}
-use Rattle.hq_overlap_classes.specs.Classes.{Joined}
 use Rattle.hq_overlap_classes.proofs.Joining.{popped}
 use Rattle.hq_overlap_classes.proofs.classes.Classes.join_all.Goals as goal
 

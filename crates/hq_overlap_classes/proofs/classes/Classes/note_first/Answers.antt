@@ -1,5 +1,5 @@
 -- One more field stands in its class.
-use Rattle.std.proofs.Common.{◌∙◌, ℕ, Bool, sym, subst, inl, inr, nat_eq, ◌&&◌}
+use Rattle.std.proofs.Common.{◌∙◌, ℕ, sym, subst, inl, inr, nat_eq, ◌&&◌}
 use Rattle.std.proofs.lemmas.Bool.{and_parts, eqb-true}
 use Rattle.hq_schema.specs.Schema.{schema_view}
 use Rattle.hq_overlap_sets.specs.declared.sets.Entry.{Entry}

@@ -1,5 +1,4 @@
 -- The sets at fault so far, and all of them.
-use Rattle.std.proofs.Common.{ℕ, ◌<◌, ◌≤◌, arith}
 use Rattle.std.proofs.lemmas.Bool.{ltb-true}
 use Rattle.hq_overlap_sets.specs.Sets.{arena_view}
 use Rattle.hq_overlap_classes.proofs.Counting.{none_found, more_found}

@@ -1,11 +1,10 @@
 -- The class of two fields that cannot merge is at fault.
-use Rattle.std.proofs.Common.{◌≡◌, ◌∙◌, ap, ℕ, sym, subst, inl, inr, nat_eq, ◌&&◌, ◌||◌, true}
+use Rattle.std.proofs.Common.{◌∙◌, ap, sym, subst, inl, inr, nat_eq, ◌&&◌, true}
 use Rattle.std.specs.Prelude.{is_some}
-use Rattle.std.proofs.lemmas.Bool.{and_parts, eqb-true, or_cases}
+use Rattle.std.proofs.lemmas.Bool.{and_parts, eqb-true}
 use Rattle.hq_overlap_sets.specs.Sets.{arena_view}
 use Rattle.hq_overlap_classes.specs.Classes as class
 use Rattle.hq_overlap_classes.specs.Classes.{AtFault}
-use Rattle.hq_overlap_classes.specs.Disputes.{is_disputed}
 use Rattle.hq_overlap_classes.proofs.Joining.{mark_by}
 use Rattle.hq_overlap_classes.proofs.disputes.Disputes.dispute.Goals as goal
 

@@ -3,7 +3,7 @@ use Rattle.std.proofs.Common.{rules, refl, map}
 use Rattle.hq_schema.specs.Schema.{schema_view}
 use Rattle.hq_overlap_sets.specs.declared.sets.Entry.{Entry}
 use Rattle.hq_overlap_classes.specs.Disputes.{IsTrueOf, noted_in}
-use Rattle.hq_overlap_sets.specs.Sets.{FieldTree, entry_view}
+use Rattle.hq_overlap_sets.specs.Sets.{entry_view}
 use Rattle.hq_overlap_sets.proofs.Stepping.{all_more_item, all_at_end}
 use Rattle.hq_overlap_classes.proofs.disputes.Disputes.fits_fields.Goals as goal
 

@@ -1,9 +1,7 @@
 -- The tests tell what is noted.
-use Rattle.std.proofs.Common.{rules, ◌∙◌, ap, sym}
-use Rattle.std.specs.Prelude.{option_map}
+use Rattle.std.proofs.Common.{rules}
 use Rattle.std.proofs.lemmas.Result.{IfOk-weaker}
 use Rattle.hq_schema.specs.Schema.{schema_view}
-use Rattle.hq_overlap_sets.specs.Sets.{entry_view}
 use Rattle.hq_overlap_classes.proofs.Sifting.{true_first}
 use Rattle.hq_overlap_classes.proofs.disputes.Disputes.fits_first.Goals as goal
 

@@ -1,5 +1,5 @@
 -- It is true of the spreads and of the fields.
-use Rattle.std.proofs.Common.{rules, ap, sym}
+use Rattle.std.proofs.Common.{rules}
 use Rattle.std.proofs.lemmas.Result.{IfOk-weaker}
 use Rattle.hq_schema.specs.Schema.{schema_view}
 use Rattle.hq_overlap_classes.specs.Disputes.{noted_in}

@@ -1,5 +1,5 @@
 -- The mark of the class.
-use Rattle.std.proofs.Common.{◌≡◌, ◌∙◌, ap, sym, subst, List, Bool, Some}
+use Rattle.std.proofs.Common.{◌∙◌, ap, sym, List, Bool, Some}
 use Rattle.std.specs.Prelude.{slice_get}
 use Rattle.hq_overlap_sets.specs.Sets.{arena_view}
 use Rattle.hq_overlap_classes.proofs.Joining.{fault_of_class}

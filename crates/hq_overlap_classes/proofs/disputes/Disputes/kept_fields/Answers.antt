@@ -1,5 +1,5 @@
 -- One more field, if it is kept.
-use Rattle.std.proofs.Common.{◌≡◌, ◌∙◌, ◌+◌, ◌++◌, ◌∷◌, [], List, Bool, cond, ap, sym, drop, filter}
+use Rattle.std.proofs.Common.{◌∙◌, ◌+◌, ◌++◌, ◌∷◌, [], List, Bool, cond, ap, sym, drop, filter}
 use Rattle.hq_overlap_sets.specs.declared.sets.Entry.{Entry}
 use Rattle.hq_overlap_classes.specs.Disputes.{keeps_entry}
 use Rattle.hq_overlap_sets.proofs.Growing.{drop_first, grown_by}

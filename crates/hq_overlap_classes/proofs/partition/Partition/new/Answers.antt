@@ -1,7 +1,5 @@
 -- One more set is alone in its class.
-use Rattle.std.proofs.Common.{◌≡◌, ◌∙◌, ap, sym, refl, List, ℕ, length, arith}
-use Rattle.std.proofs.lemmas.List.{length-append, length-map}
-use Rattle.hq_gql_nodes.specs.Reach.{graph_view}
+use Rattle.std.proofs.Common.{ap, length}
 use Rattle.hq_overlap_sets.specs.Sets.{arena_view}
 use Rattle.hq_overlap_classes.proofs.Joining.{no_partition, partition_push}
 use Rattle.hq_overlap_classes.proofs.partition.Partition.new.Goals as goal

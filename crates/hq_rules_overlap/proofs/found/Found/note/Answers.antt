@@ -1,8 +1,6 @@
 -- A field behind a conflict that is known, one that agrees, and one that does not.
-use Rattle.std.proofs.Common.{◌≡◌, ◌∙◌, sym, subst, inl, inr, Option, ℕ, Some, refl}
+use Rattle.std.proofs.Common.{sym, subst, inl, inr}
 use Rattle.std.proofs.lemmas.Result.{on_ok_weaker}
-use Rattle.hq_gql_nodes.specs.Least.{earlier}
-use Rattle.hq_overlap_sets.specs.Pairs.{AtMost}
 use Rattle.hq_overlap_sets.specs.Sets.{arena_view}
 use Rattle.hq_overlap_sets.specs.Together.{AreConflicts}
 use Rattle.hq_rules_overlap.proofs.Places.{counted_low, still_low}

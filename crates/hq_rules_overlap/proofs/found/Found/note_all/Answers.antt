@@ -1,5 +1,5 @@
 -- One more field agrees or counts.
-use Rattle.std.proofs.Common.{rules, map, refl, ◌⊎◌, inl, inr}
+use Rattle.std.proofs.Common.{rules, map, refl, ◌⊎◌}
 use Rattle.hq_overlap_sets.specs.declared.sets.Entry.{Entry}
 use Rattle.hq_overlap_sets.specs.Pairs.{AtMost}
 use Rattle.hq_overlap_sets.specs.Sets.{FieldTree, field_in}

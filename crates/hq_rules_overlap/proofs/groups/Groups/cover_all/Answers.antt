@@ -1,8 +1,7 @@
 -- One more set is covered.
-use Rattle.std.proofs.Common.{rules, ◌≡◌, ◌<◌, ℕ, false, length, subst, sym, arith}
+use Rattle.std.proofs.Common.{rules, arith}
 use Rattle.std.proofs.lemmas.List.{length-map}
 use Rattle.hq_overlap_sets.specs.Sets.{set_in, arena_view}
-use Rattle.hq_rules_overlap.specs.Exploring.{is_marked, lists_of}
 use Rattle.hq_rules_overlap.proofs.Explored.{covered_more}
 use Rattle.hq_rules_overlap.proofs.groups.Groups.cover_all.Goals as goal
 

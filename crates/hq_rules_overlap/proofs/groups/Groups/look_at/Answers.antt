@@ -1,9 +1,7 @@
 -- The steps change nothing else.
 use Rattle.hq_rules_overlap.proofs.Explored.{sound_same, looked_same}
 use Rattle.hq_overlap_sets.specs.Sets.{arena_view}
-use Rattle.std.proofs.Common.{sym, subst}
 use Rattle.std.proofs.lemmas.Result.{IfOk-weaker}
-use Rattle.hq_overlap_sets.specs.Together.{AreConflicts}
 use Rattle.hq_rules_overlap.proofs.groups.Groups.look_at.Goals as goal
 
 pub look_at_fields-requires-clause-sound : goal.look_at_fields-requires-clause-sound

@@ -1,11 +1,11 @@
 -- One more list is explored, and all of them.
-use Rattle.std.proofs.Common.{rules, ◌≡◌, ◌∙◌, ap, sym, subst, ℕ, List, Some, None}
-use Rattle.std.specs.Prelude.{option_map, slice_get, Option, Vec}
+use Rattle.std.proofs.Common.{rules, ◌∙◌, ap, sym, subst, ℕ}
+use Rattle.std.specs.Prelude.{option_map, Vec}
 use Rattle.std.specs.declared.alloc.Global.{Global}
 use Rattle.hq_overlap_sets.specs.Sets.{arena_view}
 use Rattle.hq_rules_overlap.specs.Exploring.{lists_of, Explored}
 use Rattle.hq_rules_overlap.specs.Groups.{AreTogether}
-use Rattle.hq_rules_overlap.proofs.Explored.{goes_still, goes_then, goes_done, one_explored, one_inside, got_together, at_end}
+use Rattle.hq_rules_overlap.proofs.Explored.{goes_still, goes_then, one_explored, one_inside, got_together, at_end}
 use Rattle.hq_rules_overlap.proofs.groups.Groups.run.Goals as goal
 
 pub loop-at-init : goal.loop-at-init

@@ -1,6 +1,5 @@
 -- The set is in a group that is done.
-use Rattle.std.proofs.Common.{◌∷◌, [], refl, sym, subst, List, ℕ, arith}
-use Rattle.std.specs.List.{Contains}
+use Rattle.std.proofs.Common.{◌∷◌, [], refl}
 use Rattle.std.proofs.lemmas.Result.{IfOk-weaker}
 use Rattle.hq_gql_nodes.specs.Reach.{graph_view}
 use Rattle.hq_overlap_sets.specs.Sets.{arena_view}

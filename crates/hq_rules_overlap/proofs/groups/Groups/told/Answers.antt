@@ -1,5 +1,4 @@
 -- Where both places are the same, the place is the first.
-use Rattle.std.proofs.Common.{arith}
 use Rattle.hq_overlap_sets.specs.Sets.{arena_view}
 use Rattle.hq_rules_overlap.specs.Exploring.{lists_of}
 use Rattle.hq_rules_overlap.proofs.Explored.{all_explored}

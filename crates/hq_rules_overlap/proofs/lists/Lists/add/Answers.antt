@@ -1,5 +1,5 @@
 -- A list that stands there, and one that is new.
-use Rattle.std.proofs.Common.{◌≡◌, ◌∷◌, [], List, ℕ, sym, subst}
+use Rattle.std.proofs.Common.{◌∷◌, [], List, ℕ, sym, subst}
 use Rattle.std.specs.List.{All, Contains}
 use Rattle.std.proofs.lemmas.List.Elements.{All-push, Contains-push}
 use Rattle.std.proofs.lemmas.Result.{on_ok_weaker}

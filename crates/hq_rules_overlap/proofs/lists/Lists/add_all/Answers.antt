@@ -1,5 +1,5 @@
 -- One more list is kept.
-use Rattle.std.proofs.Common.{rules, List, ℕ, refl, sym, subst}
+use Rattle.std.proofs.Common.{rules, ℕ, refl, sym, subst}
 use Rattle.std.specs.Prelude.{Vec}
 use Rattle.std.specs.declared.alloc.Global.{Global}
 use Rattle.std.proofs.lemmas.List.Elements.{All-contains}

@@ -1,5 +1,5 @@
 -- The list is one more row.
-use Rattle.std.proofs.Common.{◌≡◌, ◌∙◌, ◌++◌, ◌∷◌, [], ap, List, ℕ}
+use Rattle.std.proofs.Common.{◌∙◌, ◌++◌, ◌∷◌, [], ap, List, ℕ}
 use Rattle.std.proofs.lemmas.List.{map-append}
 use Rattle.hq_gql_nodes.specs.Reach.{graph_view}
 use Rattle.hq_rules_overlap.proofs.lists.Lists.push.Goals as goal
