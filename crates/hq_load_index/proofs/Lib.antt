@@ -6,3 +6,4 @@ pub mod Spans
 pub mod Ascending
 pub mod Neighbours
 pub mod Numbers
+pub mod Starts

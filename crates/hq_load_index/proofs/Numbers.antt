@@ -6,8 +6,8 @@ use Rattle.hq_base.specs.Cells.{cell_cmp, int}
 use Rattle.hq_base.specs.Lists.{Each, sort}
 use Rattle.hq_base.specs.declared.value.Val.{Val}
 use Rattle.hq_base.proofs.Sorts.{sort_filter, sort_map_on}
-use Rattle.hq_load_index.specs.Indexes.{by_key, counted, indexed_rows, key_at}
-use Rattle.hq_load_index.specs.Keys.{has_null, keys_cmp}
+use Rattle.hq_load_index.specs.Indexes.{by_key, counted, indexed_rows}
+use Rattle.hq_load_index.specs.Keys.{key_at, has_null, keys_cmp}
 use Rattle.hq_load_index.specs.Whole.{AreNumbered, HasNumber, row_of}
 use Rattle.hq_load_index.specs.declared.whole.Numbered.{Numbered}
 use Rattle.hq_model.proofs.CellOrders.{then_equal}
@@ -26,7 +26,7 @@ numbered_more column rows numbers k all x lt h is has = record {
 }
 
 -- keys of one whole number are ordered by it
-one_number : (m n : ℤ) → keys_cmp (int m ∷ []) (int n ∷ []) ≡ int_cmp m n
+pub one_number : (m n : ℤ) → keys_cmp (int m ∷ []) (int n ∷ []) ≡ int_cmp m n
 one_number m n = then_equal (cell_cmp (int m) (int n)) ∙ then_equal (int_cmp m n)
 
 alike : (column : ℕ) (rows : List (List Val)) (x y : Numbered) → HasNumber column rows x → HasNumber column rows y → by_key (column ∷ []) rows (row_of x) (row_of y) ≡ int_cmp x.key y.key

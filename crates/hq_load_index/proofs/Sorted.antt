@@ -10,8 +10,8 @@ use Rattle.hq_base.specs.declared.value.Val.{Val}
 use Rattle.hq_base.proofs.Orders.{cell_cmp_total}
 use Rattle.hq_base.proofs.Sorts.{ascends_sort, ascends_filter}
 use Rattle.hq_model.specs.Logic.{null_test}
-use Rattle.hq_load_index.specs.Keys.{keys_cmp, has_null, has_key}
-use Rattle.hq_load_index.specs.Indexes.{counted, key_at, by_key, indexed_rows, rows_with}
+use Rattle.hq_load_index.specs.Keys.{key_at, keys_cmp, has_null, has_key}
+use Rattle.hq_load_index.specs.Indexes.{counted, by_key, indexed_rows, rows_with}
 use Rattle.hq_load_index.specs.Places.{before_or, stands_before}
 
 pub keys_cmp_total : IsTotalOrder keys_cmp

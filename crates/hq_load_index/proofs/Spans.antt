@@ -4,8 +4,8 @@ use Rattle.std.proofs.lemmas.Bool.{cases_lt}
 use native.Mathlib.Numerals.{unary_clauses}
 use Rattle.hq_base.specs.Cells.{CellTree}
 use Rattle.hq_base.specs.declared.value.Val.{Val}
-use Rattle.hq_load_index.specs.Keys.{keys_cmp, has_null, has_key}
-use Rattle.hq_load_index.specs.Indexes.{key_at, indexed_rows, rows_with}
+use Rattle.hq_load_index.specs.Keys.{key_at, keys_cmp, has_null, has_key}
+use Rattle.hq_load_index.specs.Indexes.{indexed_rows, rows_with}
 use Rattle.hq_load_index.specs.Places.{before_or, stands_before, IsPlace, EndsWithin}
 use Rattle.hq_load_index.proofs.Sorted.{indexed_with, climbs}
 

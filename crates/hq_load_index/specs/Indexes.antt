@@ -1,21 +1,18 @@
 -- Indexes: the numbers of rows in the order of their keys (PostgreSQL, CREATE INDEX).
-use Rattle.std.specs.Prelude.{◌≡◌, ℕ, zero, suc, List, [], ◌∷◌, filter, length, not, slice_index_or}
+use Rattle.std.specs.Prelude.{◌≡◌, ℕ, zero, suc, List, [], ◌∷◌, IfSome, filter, length, not, slice_index_or}
 use Rattle.std.specs.declared.cmp.Ordering.{Ordering}
 use Rattle.std.specs.Ordering.{on}
 use Rattle.hq_base.specs.Cells.{CellTree}
 use Rattle.hq_base.specs.Lists.{sort}
 use Rattle.hq_base.specs.declared.value.Val.{Val}
-use Rattle.hq_load_index.specs.Keys.{key_in, keys_cmp, has_null, has_key}
+use Rattle.hq_load_index.specs.Direct.{AreStarts}
+use Rattle.hq_load_index.specs.Keys.{key_at, keys_cmp, has_null, has_key}
 use Rattle.hq_load_index.specs.declared.index.Index.{Index}
 
 -- so many numbers from this one on
 abbrev pub counted : (from count : ℕ) → List ℕ
 counted from zero = []
 counted from (suc count) = from ∷ counted (suc from) count
-
--- the key of the row of this number
-abbrev pub key_at : (columns : List ℕ) → List (List Val) → ℕ → List CellTree
-key_at columns rows n = key_in columns (slice_index_or rows n [])
 
 -- rows by their keys
 abbrev pub by_key : (columns : List ℕ) → List (List Val) → ℕ → ℕ → Ordering
@@ -43,3 +40,4 @@ entries_of i = i.entries.items
 -- an index is one over these rows
 pub record IsOver (rows : List (List Val)) (i : Index) : Type 0 where
   pub entries : entries_of i ≡ indexed_rows (columns_of i) rows
+  pub direct : IfSome i.direct (λ d. AreStarts (columns_of i) rows (entries_of i) d.least d.starts.items)

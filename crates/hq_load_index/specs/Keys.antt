@@ -1,5 +1,5 @@
 -- Keys: the cells of a row in some columns, and their order (PostgreSQL, B-tree indexes, ascending).
-use Rattle.std.specs.Prelude.{ℕ, List, map, Bool, not, ◌&&◌, slice_index_or}
+use Rattle.std.specs.Prelude.{ℕ, List, [], map, Bool, not, ◌&&◌, slice_index_or}
 use Rattle.std.specs.List.{list_any}
 use Rattle.std.specs.declared.cmp.Ordering.{Ordering}
 use Rattle.std.specs.Ordering.{is_eq}
@@ -38,3 +38,7 @@ has_null = list_any null_test
 -- whether a row has a key in these columns: a key with a NULL is no row's
 abbrev pub has_key : (columns : List ℕ) → List CellTree → List Val → Bool
 has_key columns key row = not (has_null key) && is_eq (keys_cmp (key_in columns row) key)
+
+-- the key of the row of this number
+abbrev pub key_at : (columns : List ℕ) → List (List Val) → ℕ → List CellTree
+key_at columns rows n = key_in columns (slice_index_or rows n [])

@@ -4,8 +4,7 @@ use Rattle.std.specs.declared.cmp.Ordering.{Ordering}
 use Rattle.std.specs.declared.cmp.Ordering.TheVariants.{Less, Equal, Greater}
 use Rattle.hq_base.specs.Cells.{CellTree}
 use Rattle.hq_base.specs.declared.value.Val.{Val}
-use Rattle.hq_load_index.specs.Keys.{keys_cmp}
-use Rattle.hq_load_index.specs.Indexes.{key_at}
+use Rattle.hq_load_index.specs.Keys.{key_at, keys_cmp}
 
 -- whether this order is before a key, or at it where `after` asks for that too
 abbrev pub before_or : Ordering → (after : Bool) → Bool

@@ -2,8 +2,8 @@
 ghost use Rattle.std.specs.Prelude.{◌≡◌, ◌^◌, ◌<◌, IfOk, OnOk, filter, length, not, true};
 ghost use Rattle.hq_base.specs.Lists.{sort};
 ghost use Rattle.hq_load_index.specs.Grids.{rows_in};
-ghost use Rattle.hq_load_index.specs.Indexes.{counted, key_at, by_key, sorted_rows, indexed_rows};
-ghost use Rattle.hq_load_index.specs.Keys.{has_null};
+ghost use Rattle.hq_load_index.specs.Indexes.{counted, by_key, sorted_rows, indexed_rows};
+ghost use Rattle.hq_load_index.specs.Keys.{key_at, has_null};
 
 use crate::Grid;
 use crate::key::{row_has_null, rows_cmp};

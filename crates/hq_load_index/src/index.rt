@@ -1,13 +1,18 @@
 //! Indexes over the rows of a grid.
-ghost use Rattle.std.specs.Prelude.{◌≡◌, ◌+◌, ◌*◌, ◌-◌, ◌^◌, ◌<◌, ◌≤◌, ℕ, IfOk, length, map, take, drop, slice_index_or};
+ghost use Rattle.std.specs.Prelude.{◌≡◌, ◌∷◌, [], ◌+◌, ◌*◌, ◌-◌, ◌^◌, ◌<◌, ◌≤◌, ℕ, IfOk, IfSome, length, map, take, drop, slice_index_or};
+ghost use Rattle.hq_base.specs.Cells.{int};
+ghost use Rattle.hq_load_index.specs.Direct.{IsSpan};
 ghost use Rattle.hq_load_index.specs.Grids.{rows_in};
 ghost use Rattle.hq_load_index.specs.Keys.{cell_view};
+ghost use Rattle.hq_load_index.specs.Places.{IsPlace};
 ghost use Rattle.hq_load_index.specs.Repeats.{TellsRepeat};
 
 use crate::build::{indexed_rows, leave_keys, sorted_rows};
+use crate::direct::{Direct, direct_of, span_of};
 use crate::key::{KeyCell, key_has_null};
-use crate::place::{end_of, start_of};
+use crate::place::{end_of, first_behind, start_of};
 use crate::repeats::first_repeat;
+use crate::span::Span;
 use crate::{Grid, Repeat, Steps};
 use hq_base::Memory;
 use hq_model::ColId;
@@ -21,6 +26,7 @@ use std::sync::ledger::{Blank, Ledger};
 pub struct Index {
     columns: Vec<ColId>,
     entries: Vec<u32>,
+    direct: Option<Direct>,
 }
 
 /// An index, and the first row that has the key of an earlier one, where there is one.
@@ -30,19 +36,33 @@ pub struct Keyed {
     pub repeat: Option<Repeat>,
 }
 
-/// The entries from `from` up to, and without, `to`, and how many comparisons found them.
-#[derive(Clone, Copy)]
-pub struct Span {
-    pub from: usize,
-    pub to: usize,
-    pub compared: u64,
-}
-
 /// The numbers of the rows that have a key, in file order, and how many comparisons found them.
 #[derive(Clone, Copy)]
 pub struct Found<'i> {
     pub rows: &'i [u32],
     pub compared: u64,
+}
+
+fn one_column(columns: &[ColId]) -> Option<ColId>
+    ensures { IfSome result (λ column. columns.now ≡ column ∷ []) }
+{
+    match columns {
+        [column] => Some(*column),
+        _ => None,
+    }
+}
+
+// The whole number that a key is.
+fn one_number(key: &[KeyCell<'_>]) -> Option<i128>
+    ensures { IfSome result (λ number. map cell_view key.now ≡ int number ∷ []) }
+{
+    match key {
+        [cell] => match cell {
+            KeyCell::Int(number) => Some(*number),
+            KeyCell::Null | KeyCell::Text(_) | KeyCell::Bool(_) => None,
+        },
+        _ => None,
+    }
 }
 
 impl Index {
@@ -55,7 +75,12 @@ impl Index {
         ensures columns { IfOk result (λ index. columns_of index ≡ columns.items) }
     {
         let entries = indexed_rows(alloc, grid, &columns)?;
-        Ok(Index { columns, entries })
+        let direct = direct_of(alloc, &columns, grid, &entries)?;
+        Ok(Index {
+            columns,
+            entries,
+            direct,
+        })
     }
 
     /// The index over these columns, and the first row that has the key of an earlier one. There, NULL is as good a value
@@ -69,8 +94,13 @@ impl Index {
         let mut entries = sorted_rows(alloc, grid, &columns)?;
         let repeat = first_repeat(grid, &columns, &entries);
         leave_keys(grid, &columns, &mut entries);
+        let direct = direct_of(alloc, &columns, grid, &entries)?;
         Ok(Keyed {
-            index: Index { columns, entries },
+            index: Index {
+                columns,
+                entries,
+                direct,
+            },
             repeat,
         })
     }
@@ -107,6 +137,9 @@ impl Index {
         ensures counted { steps.new ≡ steps.old + result.compared }
         ensures few { (b : ℕ) → length (entries_of self.now) < 2 ^ b → result.compared ≤ 2 * b + 2 }
     {
+        if let Some(span) = self.told(grid, key) {
+            return span;
+        }
         if key_has_null(key) {
             return Span {
                 from: 0,
@@ -123,6 +156,55 @@ impl Index {
             to: end.place,
             compared: start.compared + end.compared,
         }
+    }
+
+    // The entries of a key of one whole number, where they are told without a comparison.
+    fn told(&self, grid: &Grid, key: &[KeyCell<'_>]) -> Option<Span>
+        requires { IsOver (rows_in grid.now) self.now }
+        ensures { IfSome result (IsSpan (columns_of self.now) (rows_in grid.now) (entries_of self.now) (map cell_view key.now)) }
+    {
+        let direct = self.direct.as_ref()?;
+        let column = one_column(&self.columns)?;
+        let number = one_number(key)?;
+        span_of(direct, number)
+    }
+
+    /// The first entry that does not stand before a key, and with `after` the first one behind those that have it too.
+    pub fn place(&self, grid: &Grid, key: &[KeyCell<'_>], after: bool) -> usize
+        requires { IsOver (rows_in grid.now) self.now }
+        ensures { IsPlace (columns_of self.now) (rows_in grid.now) (entries_of self.now) (map cell_view key.now) after result }
+    {
+        self.place_within::<Brand>(grid, key, after, Blank::new(1))
+    }
+
+    // The same, found with a count that begins anew.
+    fn place_within<L: Ledger>(
+        &self,
+        grid: &Grid,
+        key: &[KeyCell<'_>],
+        after: bool,
+        blank: Blank,
+    ) -> usize
+        requires over { IsOver (rows_in grid.now) self.now }
+        requires name { blank.name ≡ L.name }
+        requires parts { blank.parts ≡ L.parts }
+        requires one { L.parts ≡ 1 }
+        ensures { IsPlace (columns_of self.now) (rows_in grid.now) (entries_of self.now) (map cell_view key.now) after result }
+    {
+        let mut steps = Steps::<L>::new(blank);
+        let columns = self.columns.as_slice();
+        let entries = self.entries.as_slice();
+        let found = first_behind(columns, grid, entries, key, after, 0, &mut steps);
+        found.place
+    }
+
+    /// The numbers of the rows of the entries from `from` up to, and without, `to`.
+    pub fn between(&self, from: usize, to: usize) -> &[u32]
+        requires ordered { from ≤ to }
+        requires within { to ≤ length (entries_of self.now) }
+        ensures { result.now ≡ take (to - from) (drop from (entries_of self.now)) }
+    {
+        &self.entries[from..to]
     }
 
     // The rows that have a key, found with a count that begins anew.

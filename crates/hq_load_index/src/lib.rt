@@ -2,16 +2,19 @@
 #![tactic(auto)]
 
 mod build;
+mod direct;
 mod grid;
 mod index;
 mod key;
 mod place;
 mod repeats;
+mod span;
 mod steps;
 mod whole;
 
 pub use grid::Grid;
-pub use index::{Found, Index, Keyed, Span};
+pub use index::{Found, Index, Keyed};
 pub use key::KeyCell;
 pub use repeats::Repeat;
+pub use span::Span;
 pub use steps::Steps;

@@ -38,8 +38,8 @@ fn stands_before<L: Ledger>(
     }
 }
 
-// The first entry that does not stand before a key. Those below `low` do.
-fn first_behind<L: Ledger>(
+/// The first entry that does not stand before a key. Those below `low` do.
+pub(crate) fn first_behind<L: Ledger>(
     columns: &[ColId],
     grid: &Grid,
     entries: &[u32],

@@ -20,8 +20,8 @@ pub(crate) struct Numbered {
     pub row: u32,
 }
 
-// The whole number in a column of a row, where one is there.
-fn int_at(row: &[Val], column: ColId) -> Option<i64>
+/// The whole number in a column of a row, where one is there.
+pub(crate) fn int_at(row: &[Val], column: ColId) -> Option<i64>
     ensures { IfSome result (λ n. cell_in row.now column ≡ int n) }
 {
     match row.get(column.at()) {

@@ -6,7 +6,8 @@ use Rattle.std.proofs.lemmas.Cmp.{tied_itself}
 use Rattle.std.proofs.lemmas.List.{map-append, take-append-drop}
 use Rattle.hq_base.specs.Cells.{CellTree, key_cmp}
 use Rattle.hq_base.proofs.Orders.{key_cmp_total}
-use Rattle.hq_load_index.specs.Indexes.{by_key, key_at}
+use Rattle.hq_load_index.specs.Indexes.{by_key}
+use Rattle.hq_load_index.specs.Keys.{key_at}
 use Rattle.hq_load_index.specs.Repeats.{KeysDiffer}
 use Rattle.hq_load_index.proofs.Sorted.{by_key_total}
 use Rattle.hq_model.specs.Database.{Row}

@@ -13,8 +13,8 @@ use Rattle.hq_base.proofs.Sorts.{sort_length, sort_filter}
 use Rattle.hq_model.specs.Database.{Row}
 use Rattle.hq_model.specs.Logic.{null_test}
 use Rattle.hq_model.specs.declared.table.Column.{Column}
-use Rattle.hq_load_index.specs.Indexes.{counted, key_at, by_key, columns_of, entries_of}
-use Rattle.hq_load_index.specs.Keys.{cell_in, key_in, has_null}
+use Rattle.hq_load_index.specs.Indexes.{counted, by_key, columns_of, entries_of}
+use Rattle.hq_load_index.specs.Keys.{key_at, cell_in, key_in, has_null}
 use Rattle.hq_load_index.specs.declared.index.Index.{Index}
 use Rattle.hq_sql_scans.proofs.Backward.{apart_counted, each_counted, sort_turned}
 use Rattle.hq_load_index.proofs.Counted.{length-counted}

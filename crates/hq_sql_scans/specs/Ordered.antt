@@ -7,9 +7,9 @@ use Rattle.std.specs.Borrow.{Bor}
 use Rattle.hq_base.specs.Cells.{CellTree}
 use Rattle.hq_model.specs.Database.{Row}
 use Rattle.hq_model.specs.declared.table.Column.{Column}
-use Rattle.hq_load_index.specs.Indexes.{IsOver, columns_of, entries_of, key_at}
+use Rattle.hq_load_index.specs.Indexes.{IsOver, columns_of, entries_of}
 use Rattle.hq_load_index.specs.Repeats.{KeysDiffer}
-use Rattle.hq_load_index.specs.Keys.{cell_in, key_in, keys_cmp, has_null}
+use Rattle.hq_load_index.specs.Keys.{key_at, cell_in, key_in, keys_cmp, has_null}
 use Rattle.hq_load_index.specs.declared.index.Index.{Index}
 use Rattle.hq_sql_tree.specs.Tree as tree
 use Rattle.hq_sql_tree.specs.declared.expr.Expr.{Expr}

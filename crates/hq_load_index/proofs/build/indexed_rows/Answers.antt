@@ -2,8 +2,8 @@ use Rattle.std.proofs.Common.{◌∙◌, ap, filter, not}
 use Rattle.std.proofs.lemmas.Result.{IfOk-weaker}
 use Rattle.hq_base.specs.Lists.{sort}
 use Rattle.hq_load_index.specs.Grids.{rows_in}
-use Rattle.hq_load_index.specs.Indexes.{by_key, key_at}
-use Rattle.hq_load_index.specs.Keys.{has_null}
+use Rattle.hq_load_index.specs.Indexes.{by_key}
+use Rattle.hq_load_index.specs.Keys.{key_at, has_null}
 use Rattle.hq_load_index.proofs.Numbers.{indexed_sorted}
 use Rattle.hq_load_index.proofs.build.indexed_rows.Goals as goal
 

@@ -1,6 +1,6 @@
 use Rattle.std.proofs.Common.{rules}
 use Rattle.hq_load_index.specs.Grids.{rows_in}
-use Rattle.hq_load_index.specs.Indexes.{key_at}
+use Rattle.hq_load_index.specs.Keys.{key_at}
 use Rattle.hq_load_index.proofs.Closures.{sorted_by_closure}
 use Rattle.hq_load_index.proofs.Sorted.{keys_cmp_total}
 use Rattle.hq_load_index.proofs.build.sort_by_order.Goals as goal

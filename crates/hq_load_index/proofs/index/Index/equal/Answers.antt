@@ -1,8 +1,9 @@
 use Rattle.std.proofs.Common.{◌≡◌, ◌<◌, ◌^◌, false, length, map, sym, ◌∙◌, arith}
 use Rattle.hq_load_index.specs.Grids.{rows_in}
-use Rattle.hq_load_index.specs.Indexes.{indexed_rows}
+use Rattle.hq_load_index.specs.Indexes.{columns_of, entries_of, indexed_rows}
 use Rattle.hq_load_index.specs.Keys.{cell_view, has_null}
 use Rattle.hq_load_index.proofs.Spans.{places_span, no_row_with}
+use Rattle.hq_load_index.proofs.Starts.{place_order}
 use Rattle.hq_load_index.proofs.index.Index.equal.Goals as goal
 
 pub returns-then-key_has_null-clause-found : goal.returns-then-key_has_null-clause-found
@@ -26,3 +27,11 @@ returns-clause-found g c =
     places_span columns rows entries key c.start_of-start.result.place c.end_of-end.result.place is whole c.start_of-start.ensures.place
     c.end_of-end.ensures.place c.end_of-end.ensures.above in
     rw (c.as_slice-entries.ensures.value, c.as_slice-columns.ensures.value) at found
+
+pub returns-in-Some-clause-found : goal.returns-in-Some-clause-found
+returns-in-Some-clause-found g c =
+    let h = rw c.in-Some.is at c.told.ensures in
+    let rows = rows_in c.args.grid.now in
+    let key = map cell_view c.args.key.now in
+    places_span (columns_of c.args.self.now) rows (entries_of c.args.self.now) key c.in-Some.span.from c.in-Some.span.to c.requires.entries h.whole h.from h.to
+    (place_order (columns_of c.args.self.now) rows (entries_of c.args.self.now) key c.in-Some.span.from c.in-Some.span.to h.from h.to)
