@@ -1,5 +1,5 @@
 -- Where the keys of whole numbers begin among the entries (Cormen et al., Introduction to Algorithms, direct-address tables).
-use Rattle.std.specs.Prelude.{◌≡◌, ◌<◌, ℕ, ℤ, zero, suc, pos, ◌+ℤ◌, List, [], ◌∷◌, length, false, true, slice_index_or}
+use Rattle.std.specs.Prelude.{◌≡◌, ◌<◌, ℕ, ℤ, suc, pos, ◌+ℤ◌, List, [], ◌∷◌, length, false, true, slice_index_or}
 use Rattle.hq_base.specs.Cells.{CellTree, int}
 use Rattle.hq_base.specs.declared.value.Val.{Val}
 use Rattle.hq_load_index.specs.Keys.{has_null}

@@ -1,4 +1,4 @@
-use Rattle.std.proofs.Common.{rules, ◌≡◌, map, false, get_or, arith}
+use Rattle.std.proofs.Common.{rules, ◌≡◌, map, false, get_or}
 use Rattle.hq_load_index.specs.Grids.{rows_in}
 use Rattle.hq_load_index.specs.Keys.{cell_view}
 use Rattle.hq_load_index.specs.Places.{stands_before}
