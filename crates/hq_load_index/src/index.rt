@@ -13,6 +13,7 @@ use crate::key::{KeyCell, key_has_null};
 use crate::place::{end_of, first_behind, start_of};
 use crate::repeats::first_repeat;
 use crate::span::Span;
+use crate::steps::compared;
 use crate::{Grid, Repeat, Steps};
 use hq_base::Memory;
 use hq_model::ColId;
@@ -138,7 +139,7 @@ impl Index {
         ensures few { (b : ℕ) → length (entries_of self.now) < 2 ^ b → result.compared ≤ 2 * b + 2 }
     {
         if let Some(span) = self.told(grid, key) {
-            return span;
+            return self.counted(grid, key, span, steps);
         }
         if key_has_null(key) {
             return Span {
@@ -155,6 +156,33 @@ impl Index {
             from: start.place,
             to: end.place,
             compared: start.compared + end.compared,
+        }
+    }
+
+    // A span that was told, with one comparison, at its first entry: by such comparisons look-ups are counted.
+    fn counted<L: Ledger>(
+        &self,
+        grid: &Grid,
+        key: &[KeyCell<'_>],
+        span: Span,
+        steps: &mut Steps<L>,
+    ) -> Span
+        requires within { span.to ≤ length (entries_of self.now) }
+        requires free { span.compared ≡ 0 }
+        ensures from { result.from ≡ span.from }
+        ensures to { result.to ≡ span.to }
+        ensures counted { steps.new ≡ steps.old + result.compared }
+        ensures few { result.compared ≤ 1 }
+    {
+        if span.from >= span.to {
+            return span;
+        }
+        let row = grid.row(self.entries[span.from] as usize);
+        let _ = compared(&self.columns, row, key, steps);
+        Span {
+            from: span.from,
+            to: span.to,
+            compared: 1,
         }
     }
 

@@ -1,7 +1,8 @@
-use Rattle.std.proofs.Common.{◌≡◌, ◌<◌, ◌^◌, false, length, map, sym, ◌∙◌, arith}
+use Rattle.std.proofs.Common.{◌≡◌, ◌<◌, ◌^◌, false, true, length, map, sym, subst, ◌∙◌, arith}
 use Rattle.hq_load_index.specs.Grids.{rows_in}
 use Rattle.hq_load_index.specs.Indexes.{columns_of, entries_of, indexed_rows}
 use Rattle.hq_load_index.specs.Keys.{cell_view, has_null}
+use Rattle.hq_load_index.specs.Places.{IsPlace}
 use Rattle.hq_load_index.proofs.Spans.{places_span, no_row_with}
 use Rattle.hq_load_index.proofs.Starts.{place_order}
 use Rattle.hq_load_index.proofs.index.Index.equal.Goals as goal
@@ -31,7 +32,11 @@ returns-clause-found g c =
 pub returns-in-Some-clause-found : goal.returns-in-Some-clause-found
 returns-in-Some-clause-found g c =
     let h = rw c.in-Some.is at c.told.ensures in
+    let columns = columns_of c.args.self.now in
     let rows = rows_in c.args.grid.now in
+    let entries = entries_of c.args.self.now in
     let key = map cell_view c.args.key.now in
-    places_span (columns_of c.args.self.now) rows (entries_of c.args.self.now) key c.in-Some.span.from c.in-Some.span.to c.requires.entries h.whole h.from h.to
-    (place_order (columns_of c.args.self.now) rows (entries_of c.args.self.now) key c.in-Some.span.from c.in-Some.span.to h.from h.to)
+    let from = subst (IsPlace columns rows entries key false) (sym c.counted.ensures.from) h.from in
+    let to = subst (IsPlace columns rows entries key true) (sym c.counted.ensures.to) h.to in
+    let ordered = place_order columns rows entries key c.counted.result.from c.counted.result.to from to in
+    places_span columns rows entries key c.counted.result.from c.counted.result.to c.requires.entries h.whole from to ordered
