@@ -14,6 +14,7 @@ use Rattle.hq_base.specs.declared.value.Val.{Val}
 use Rattle.hq_base.specs.declared.value.Val.TheVariants as val
 use Rattle.hq_base.proofs.Lists.{any_map_of, each_weaken, filter_map_of}
 use Rattle.hq_load_index.proofs.Chunked.{chunked_flat, length-chunked}
+use Rattle.hq_load_index.proofs.Sorted.{filter_weaker}
 use Rattle.hq_load_index.specs.Chunks.{chunked}
 use Rattle.hq_load_index.specs.Grids.{rows_in}
 use Rattle.hq_load_index.specs.Indexes.{IsOver, columns_of, counted, rows_with}
@@ -36,8 +37,10 @@ use Rattle.hq_sql_tree.specs.Tree.{JoinTrees, PredTree}
 use Rattle.hq_sql_tree.specs.View.{filter_view}
 use Rattle.hq_sql_constants.specs.Listed.{AsksOneOf, is_one_of}
 use Rattle.hq_sql_constants.specs.Patterns.{AsksLike, is_like}
+use Rattle.hq_sql_constants.specs.Ranged.{AsksRange, HaveSame, meets_all}
 use Rattle.hq_sql_constants.specs.Sifted.{AreConstants, FindsOver, IsLeft, KeepsSame, MarksAll, as_looked, has_constant, places_looked, with_places}
 use Rattle.hq_sql_constants.specs.declared.marked.Constants.{Constants}
+use Rattle.hq_sql_constants.specs.declared.ranged.Bound.{Bound}
 use Rattle.hq_sql_scans.specs.Links.{has_cell}
 use Rattle.hq_sql_scans.specs.Ordered.{Finds}
 use Rattle.hq_sql_scans.specs.Positions.{kept_of, positions_of, rows_at}
@@ -118,31 +121,52 @@ places_end q ps i places le so_far = so_far ∙ ap (filter q) (take_all i ps le)
 
 -- ---- what WHERE keeps
 
--- places at whose rows a column is not as a condition asks it to be may be left out
-left_is : (w : World) (columns : List Column) (rows : List Row) (js : JoinTrees) (alias name : List ℕ) (p : PredTree) (good : CellTree → Bool) (at : ℕ)
-    (q : ℕ → Bool) (ps : List ℕ)
+-- of the rows whose column is as a condition asks it to be both have the same, in one order: then WHERE keeps the same of both
+alike_is : (w : World) (columns : List Column) (rows : List Row) (js : JoinTrees) (alias name : List ℕ) (p : PredTree) (good : CellTree → Bool) (at : ℕ)
+    (places ps : List ℕ)
     → ((m : Names) → truth_at p w m ≡ Yes → good (cell_named (m alias) name) ≡ true)
     → position (λ c. bytes_eq c.name name) columns ≡ Some at → is_joined js alias ≡ false
-    → ((k : ℕ) → q k ≡ false → good (cell_in (get_or rows k []) at) ≡ false)
+    → filter (λ k. good (cell_in (get_or rows k []) at)) places ≡ filter (λ k. good (cell_in (get_or rows k []) at)) ps
     → KeepsSame w js alias (tree.filter p)
-    (map (λ k. get_or (map (named_row columns) rows) k []) (filter q ps))
+    (map (λ k. get_or (map (named_row columns) rows) k []) places)
     (map (λ k. get_or (map (named_row columns) rows) k []) ps)
-left_is w columns rows js alias name p good at q ps asked first alone bad =
+alike_is w columns rows js alias name p good at places ps asked first alone same =
     let f : ℕ → NamedRow = λ k. get_or (map (named_row columns) rows) k [] in
+    let q : ℕ → Bool = λ k. good (cell_in (get_or rows k []) at) in
     let never : (n : Names) (k : ℕ) → q k ≡ false → (m : Names) → Keeps js (with_alias n alias (f k)) m → kept (tree.filter p) w m ≡ true → ⊥ =
     λ n k out m around e.
     let here : m alias ≡ named_row columns (get_or rows k []) = around alias alone ∙ (ap (λ b. cond b (f k) (n alias)) (same_bytes alias) ∙ sym (stored_row columns rows k)) in
     let cell : cell_named (m alias) name ≡ cell_in (get_or rows k []) at = ap (λ r. cell_named r name) here ∙ named_first columns (get_or rows k []) name at first in
     let one = asked m (is_yes (truth_at p w m) e) in
-    false≢true (sym (bad k out) ∙ ap good (sym cell) ∙ one) in
+    false≢true (sym out ∙ ap good (sym cell) ∙ one) in
     let none : (n : Names) (k : ℕ) → q k ≡ false → filter (kept (tree.filter p) w) (joined js w (with_alias n alias (f k))) ≡ [] =
     λ n k out. none_kept (kept (tree.filter p) w) (joined js w (with_alias n alias (f k)))
     (each_weaken (Keeps js (with_alias n alias (f k))) (λ m. kept (tree.filter p) w m ≡ true → ⊥) (λ m around. never n k out m around)
     (joined js w (with_alias n alias (f k))) (joined_keeps js w (with_alias n alias (f k))))
     in
-    record { same = λ n. left_out js w n alias (kept (tree.filter p) w) f q (none n) ps }
+    record {
+      same = λ n.
+          sym (left_out js w n alias (kept (tree.filter p) w) f q (none n) places)
+          ∙ ap (λ l. kept_of js w n alias (kept (tree.filter p) w) (map f l)) same
+          ∙ left_out js w n alias (kept (tree.filter p) w) f q (none n) ps;
+    }
 
 -- the same of rows that are lent
+alike_at : (w : World) (columns : List Column) (rows lent : List Row) (js : JoinTrees) (alias name : List ℕ) (p : PredTree) (good : CellTree → Bool)
+    (at : ℕ) (places ps : List ℕ)
+    → lent ≡ rows → ((m : Names) → truth_at p w m ≡ Yes → good (cell_named (m alias) name) ≡ true)
+    → position (λ c. bytes_eq c.name name) columns ≡ Some at → is_joined js alias ≡ false
+    → filter (λ k. good (cell_in (get_or rows k []) at)) places ≡ filter (λ k. good (cell_in (get_or rows k []) at)) ps
+    → KeepsSame w js alias (tree.filter p) (map (λ k. get_or (map (named_row columns) lent) k []) places) (map (λ k. get_or (map (named_row columns) lent) k []) ps)
+alike_at w columns rows lent js alias name p good at places ps same asked first alone alike =
+    subst (λ rs. KeepsSame w js alias (tree.filter p) (map (λ k. get_or (map (named_row columns) rs) k []) places) (map (λ k. get_or (map (named_row columns) rs) k []) ps)) (sym same)
+    (alike_is w columns rows js alias name p good at places ps asked first alone alike)
+
+not_out : (b : Bool) → (b ≡ false → ⊥) → b ≡ true
+not_out true h = refl
+not_out false h = absurd (h refl)
+
+-- places at whose rows the column is not as a condition asks it to be may be left out
 left_at : (w : World) (columns : List Column) (rows lent : List Row) (js : JoinTrees) (alias name : List ℕ) (p : PredTree) (good : CellTree → Bool)
     (at : ℕ) (q : ℕ → Bool) (ps places : List ℕ)
     → lent ≡ rows → ((m : Names) → truth_at p w m ≡ Yes → good (cell_named (m alias) name) ≡ true)
@@ -151,9 +175,9 @@ left_at : (w : World) (columns : List Column) (rows lent : List Row) (js : JoinT
     → places ≡ filter q ps
     → KeepsSame w js alias (tree.filter p) (map (λ k. get_or (map (named_row columns) lent) k []) places) (map (λ k. get_or (map (named_row columns) lent) k []) ps)
 left_at w columns rows lent js alias name p good at q ps places same asked first alone bad chosen =
-    subst (λ rs. KeepsSame w js alias (tree.filter p) (map (λ k. get_or (map (named_row columns) rs) k []) places) (map (λ k. get_or (map (named_row columns) rs) k []) ps)) (sym same)
-    (subst (λ qs. KeepsSame w js alias (tree.filter p) (map (λ k. get_or (map (named_row columns) rows) k []) qs) (map (λ k. get_or (map (named_row columns) rows) k []) ps)) (sym chosen)
-    (left_is w columns rows js alias name p good at q ps asked first alone bad))
+    let g : ℕ → Bool = λ k. good (cell_in (get_or rows k []) at) in
+    alike_at w columns rows lent js alias name p good at places ps same asked first alone
+    (ap (filter g) chosen ∙ filter_weaker g q (λ k e. not_out (q k) (λ out. false≢true (sym (bad k out) ∙ e))) ps)
 
 -- places at whose rows a column is none of the constants that a condition asks it to be may be left out
 pub sifted_at : (w : World) (columns : List Column) (rows lent : List Row) (js : JoinTrees) (alias name : List ℕ) (p : PredTree) (vs : List Val)
@@ -212,6 +236,17 @@ pub likened_at : (w : World) (columns : List Column) (rows lent : List Row) (js 
 likened_at w columns rows lent js alias name p m at ps places same asked first alone chosen =
     left_at w columns rows lent js alias name p (is_like m) at (λ k. is_like m (cell_in (get_or rows k []) at)) ps places same (asked.asks w) first alone
     (λ k out. out) chosen
+
+-- ---- a range
+
+-- places with the same of the rows whose column meets the comparisons that a condition asks for may stand in place of others
+pub ranged_at : (w : World) (columns : List Column) (rows lent : List Row) (js : JoinTrees) (alias name : List ℕ) (p : PredTree) (bs : List Bound)
+    (at : ℕ) (ps places : List ℕ)
+    → lent ≡ rows → AsksRange p alias name bs → position (λ c. bytes_eq c.name name) columns ≡ Some at → is_joined js alias ≡ false
+    → HaveSame at rows bs places ps
+    → KeepsSame w js alias (tree.filter p) (map (λ q. get_or (map (named_row columns) lent) q []) places) (map (λ q. get_or (map (named_row columns) lent) q []) ps)
+ranged_at w columns rows lent js alias name p bs at ps places same asked first alone alike =
+    alike_at w columns rows lent js alias name p (meets_all bs) at places ps same (asked.all.asks w) first alone alike
 
 -- what a scan finds, it finds over these tables
 finds_over : (w : World) (js : JoinTrees) (scope : Scope) (alias : List ℕ) (parts : Parts) (source : Source) (looked : Looked)

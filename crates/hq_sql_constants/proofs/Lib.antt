@@ -5,3 +5,5 @@ pub mod Marks
 pub mod ColumnTests
 pub mod Sieving
 pub mod KeyValues
+pub mod Ranges
+pub mod RangeEntries

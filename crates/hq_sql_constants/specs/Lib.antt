@@ -1,5 +1,6 @@
 pub mod Listed
 pub mod Patterns
 pub mod Plain
+pub mod Ranged
 pub mod Sieves
 pub mod Sifted

@@ -9,8 +9,10 @@ mod listed;
 mod marked;
 mod patterns;
 mod plain;
+mod ranged;
 mod sieve;
 mod sifted;
+mod spans;
 
 pub use plain::{ColumnTest, cell_in, one_holds, tests_of};
 pub use sieve::{Sieve, Verdict, sieve_of, verdict_at};

@@ -13,6 +13,7 @@ use hq_base::{Memory, Txt, Val};
 use hq_model::{Op, Test};
 use hq_sql_access::equations::is_column;
 use hq_sql_access::pinned::Pinned;
+use hq_sql_scans::links::own_name;
 use hq_sql_tree::{Expr, ExprList, Pred, PredList};
 use std::alloc::Global;
 
@@ -130,28 +131,6 @@ fn of_any(
         }
     }
     Ok(Some(values))
-}
-
-// The name of a column of the alias.
-fn own_name<'d>(value: &'d Expr, alias: &Txt) -> Option<&'d Txt> {
-    match value {
-        Expr::Column {
-            alias: named,
-            name,
-            ..
-        } => {
-            if *alias == *named {
-                return Some(name);
-            }
-            None
-        }
-        Expr::Int(_)
-        | Expr::Text(_)
-        | Expr::Uuid(_)
-        | Expr::Bool(_)
-        | Expr::Object(_)
-        | Expr::Agg(_) => None,
-    }
 }
 
 /// The name of the column that a test is of.

@@ -134,8 +134,8 @@ pub(crate) fn index_over(rows: &Rows, column: ColId) -> Option<&Index>
     None
 }
 
-// Sets the marks of these rows.
-fn mark_rows(marks: &mut Vec<bool>, found: &[u32])
+/// Sets the marks of these rows.
+pub(crate) fn mark_rows(marks: &mut Vec<bool>, found: &[u32])
     ensures count { length marks.new.items ≡ length marks.old.items }
     ensures left { (t : ℕ) → t < length marks.old.items → slice_index_or marks.new.items t false ≡ false → slice_index_or marks.old.items t false ≡ false }
     ensures set { (t : ℕ) → t < length marks.old.items → slice_index_or marks.old.items t false ≡ false → slice_index_or marks.new.items t false ≡ list_any (λ u. u == t) found.now }

@@ -2,7 +2,6 @@
 //! once, and they are tried at the values of the rows, without a scope.
 ghost use Rattle.std.specs.Prelude.{◌≡◌, [], true, map, IfOk, IfSome};
 ghost use Rattle.hq_load_index.specs.Keys.{cell_in};
-ghost use Rattle.hq_sql_access.specs.Equations.{is_column};
 ghost use Rattle.hq_sql_cells.specs.View.{cell_view};
 ghost use Rattle.hq_sql_scans.specs.Links.{IsOwn};
 ghost use Rattle.hq_sql_tree.specs.Meaning.{Scope as Names, value};
@@ -12,8 +11,8 @@ ghost use Rattle.hq_sql_constants.specs.Plain.{AreTests, IsPlainTest, IsTest, on
 
 use hq_base::{Memory, Txt, Val};
 use hq_model::{ColId, Column, Test, Truth};
-use hq_sql_access::equations::first_named;
 use hq_sql_cells::{Cell, test_truth};
+use hq_sql_scans::links::own_column;
 use hq_sql_tree::{Expr, ExprList, Pred, PredList};
 use std::alloc::Global;
 
@@ -24,52 +23,6 @@ pub struct ColumnTest<'d> {
     pub negated: bool,
     pub test: Test,
     pub operands: Vec<Cell<'d>>,
-}
-
-// The name of the column of an alias.
-#[tactic(auto, using(hq_sql_scans::proofs::Linked::own_column))]
-fn own_name<'d>(expr: &'d Expr, alias: &Txt) -> Option<&'d Txt>
-    ensures { IfSome result (λ name. is_column alias.now name.now (expr_view expr.now) ≡ true) }
-{
-    match expr {
-        Expr::Column {
-            alias: named,
-            name,
-            ..
-        } => {
-            if *alias == *named {
-                return Some(name);
-            }
-            None
-        }
-        Expr::Int(_)
-        | Expr::Text(_)
-        | Expr::Uuid(_)
-        | Expr::Bool(_)
-        | Expr::Object(_)
-        | Expr::Agg(_) => None,
-    }
-}
-
-// The first column of this name, which an expression is.
-fn column_named(own: &Expr, columns: &[Column], alias: &Txt, name: &Txt) -> Option<ColId>
-    requires { is_column alias.now name.now (expr_view own.now) ≡ true }
-    ensures { IfSome result (IsOwn columns.now alias.now (expr_view own.now)) }
-{
-    match first_named(columns, name) {
-        Some(at) => Some(ColId::new(at)),
-        None => None,
-    }
-}
-
-// The column of the alias that an expression is.
-fn own_column(own: &Expr, columns: &[Column], alias: &Txt) -> Option<ColId>
-    ensures { IfSome result (IsOwn columns.now alias.now (expr_view own.now)) }
-{
-    match own_name(own, alias) {
-        Some(name) => column_named(own, columns, alias, name),
-        None => None,
-    }
 }
 
 // The cell of a constant.

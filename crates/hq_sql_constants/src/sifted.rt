@@ -4,6 +4,7 @@ ghost use Rattle.std.specs.List.{position};
 ghost use Rattle.hq_load_index.specs.Indexes.{IsOver, columns_of};
 ghost use Rattle.hq_sql_constants.specs.Listed.{AsksOneOf};
 ghost use Rattle.hq_sql_constants.specs.Patterns.{AsksLike};
+ghost use Rattle.hq_sql_constants.specs.Ranged.{AsksRange};
 ghost use Rattle.hq_sql_constants.specs.Sifted.{IsLeft, KeepsSame, places_looked, with_places};
 ghost use Rattle.hq_sql_access.specs.Equations.{is_joined};
 ghost use Rattle.hq_sql_access.specs.Lent.{rows_lent};
@@ -16,6 +17,8 @@ ghost use Rattle.hq_sql_tree.specs.View.{filter_view, join_view, pred_view};
 use crate::listed::{Listed, is_many, listed_in};
 use crate::marked::{constants_of, index_over, marks_by, places_marked, places_with};
 use crate::patterns::{Likened, likened_in, places_like};
+use crate::ranged::{Ranged, ranged_in};
+use crate::spans::{Between, places_between, span_of};
 use hq_base::{Memory, Txt};
 use hq_load_index::Index;
 use hq_load_tables::Rows;
@@ -31,6 +34,9 @@ use std::alloc::Global;
 
 // Of fewer places none is worth to be left out.
 const FEW: usize = 64;
+
+// More than one in so many places is not worth to be found by an index.
+const PART: usize = 4;
 
 // So many constants are too many to be looked up.
 const MOST: usize = 1 << 24;
@@ -184,7 +190,102 @@ fn sifted_by_pattern<'d>(
     }
 }
 
-// The same of a condition, where it asks a column to be one of many constants, or like a long pattern.
+// Whether so many entries are few beside so many places.
+fn are_few(span: Between, number: usize) -> bool {
+    span.to.saturating_sub(span.from) <= number / PART
+}
+
+// Those of the places whose rows stand in the range in which a condition asks a column with an index to be, where these are few.
+fn sifted_between<'d>(
+    alloc: Global,
+    stored: &'d Stored<'d>,
+    rows: &Rows,
+    alias: &Txt,
+    joins: &[Join],
+    pred: &Pred,
+    asked: Ranged<'_>,
+    positions: Positions<'_>,
+    world: &Pinned<'_>,
+) -> Result<Option<Vec<u32>>, Memory>
+    requires joined { is_joined (joins_of (map join_view joins.now)) alias.now ≡ false }
+    requires rows { rows_lent stored.now.rows ≡ rows.now }
+    requires asks { AsksRange (pred_view pred.now) alias.now asked.name.now asked.bounds.items }
+    ensures { IfOk result
+        (λ found. IfSome found
+        (λ places. KeepsSame (world_of world.now) (joins_of (map join_view joins.now)) alias.now (filtered (pred_view pred.now))
+        (map (row_in (source.Stored stored.entry)) places.items) (rows_at (source.Stored stored.entry) positions.entry))) }
+{
+    let Some(at) = first_named(stored.table.columns.as_slice(), asked.name) else {
+        return Ok(None);
+    };
+    let column = ColId::new(at);
+    let Some(index) = index_over(rows, column) else {
+        return Ok(None);
+    };
+    let bounds = asked.bounds.as_slice();
+    let span = span_of(rows, index, column, bounds);
+    if !are_few(span, number_of(positions)) {
+        return Ok(None);
+    }
+    let places = places_between(alloc, rows, index, column, bounds, span, positions)?;
+    Ok(Some(places))
+}
+
+// The same of a condition, where it asks a column with an index to be in a range. The places of a key are few as they are.
+fn sifted_by_range<'d>(
+    alloc: Global,
+    stored: &'d Stored<'d>,
+    rows: &Rows,
+    alias: &Txt,
+    joins: &[Join],
+    pred: &Pred,
+    positions: Positions<'_>,
+    world: &Pinned<'_>,
+) -> Result<Option<Vec<u32>>, Memory>
+    requires joined { is_joined (joins_of (map join_view joins.now)) alias.now ≡ false }
+    requires rows { rows_lent stored.now.rows ≡ rows.now }
+    ensures { IfOk result
+        (λ found. IfSome found
+        (λ places. KeepsSame (world_of world.now) (joins_of (map join_view joins.now)) alias.now (filtered (pred_view pred.now))
+        (map (row_in (source.Stored stored.entry)) places.items) (rows_at (source.Stored stored.entry) positions.entry))) }
+{
+    if let Positions::Entries(_) = positions {
+        return Ok(None);
+    }
+    let columns = stored.table.columns.as_slice();
+    match ranged_in(alloc, pred, rows, columns, alias)? {
+        Some(asked) => sifted_between(
+            alloc, stored, rows, alias, joins, pred, asked, positions, world,
+        ),
+        None => Ok(None),
+    }
+}
+
+// The same of a condition, where it asks a column with an index to be in a range, or one to be like a long pattern.
+fn sifted_further<'d>(
+    alloc: Global,
+    stored: &'d Stored<'d>,
+    rows: &Rows,
+    alias: &Txt,
+    joins: &[Join],
+    pred: &Pred,
+    positions: Positions<'_>,
+    world: &Pinned<'_>,
+) -> Result<Option<Vec<u32>>, Memory>
+    requires joined { is_joined (joins_of (map join_view joins.now)) alias.now ≡ false }
+    requires rows { rows_lent stored.now.rows ≡ rows.now }
+    ensures { IfOk result
+        (λ found. IfSome found
+        (λ places. KeepsSame (world_of world.now) (joins_of (map join_view joins.now)) alias.now (filtered (pred_view pred.now))
+        (map (row_in (source.Stored stored.entry)) places.items) (rows_at (source.Stored stored.entry) positions.entry))) }
+{
+    match sifted_by_range(alloc, stored, rows, alias, joins, pred, positions, world)? {
+        Some(places) => Ok(Some(places)),
+        None => sifted_by_pattern(alloc, stored, rows, alias, joins, pred, positions, world),
+    }
+}
+
+// The same of a condition, where it asks a column to be one of many constants, in a range, or like a long pattern.
 fn sifted_rows<'d>(
     alloc: Global,
     stored: &'d Stored<'d>,
@@ -207,7 +308,7 @@ fn sifted_rows<'d>(
         Some(asked) => sifted_by(
             alloc, stored, rows, alias, joins, pred, asked, positions, world,
         ),
-        None => sifted_by_pattern(alloc, stored, rows, alias, joins, pred, positions, world),
+        None => sifted_further(alloc, stored, rows, alias, joins, pred, positions, world),
     }
 }
 

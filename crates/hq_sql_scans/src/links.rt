@@ -26,9 +26,9 @@ pub struct LinkList<'d> {
     pub exprs: Vec<&'d Expr>,
 }
 
-// The name of the column of an alias.
+/// The name of the column of an alias that an expression is.
 #[tactic(auto, using(crate::proofs::Linked::own_column))]
-fn own_name<'d>(expr: &'d Expr, alias: &Txt) -> Option<&'d Txt>
+pub fn own_name<'d>(expr: &'d Expr, alias: &Txt) -> Option<&'d Txt>
     ensures { IfSome result (λ name. is_column alias.now name.now (expr_view expr.now) ≡ true) }
 {
     match expr {
@@ -62,8 +62,8 @@ fn column_named(own: &Expr, columns: &[Column], alias: &Txt, name: &Txt) -> Opti
     }
 }
 
-// The column of the alias that an expression is.
-fn own_column(own: &Expr, columns: &[Column], alias: &Txt) -> Option<ColId>
+/// The column of a table that an expression is, where the alias is a row of it.
+pub fn own_column(own: &Expr, columns: &[Column], alias: &Txt) -> Option<ColId>
     ensures { IfSome result (IsOwn columns.now alias.now (expr_view own.now)) }
 {
     match own_name(own, alias) {

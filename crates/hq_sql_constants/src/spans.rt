@@ -1,0 +1,138 @@
+//! The entries of an index over one column whose rows meet comparisons of it with constants.
+ghost use Rattle.std.specs.Prelude.{◌≡◌, ◌∷◌, ◌<◌, ◌≤◌, ◌==◌, ℕ, [], false, filter, length, take, drop, ◌-◌, IfOk, slice_index_or};
+ghost use Rattle.std.specs.List.{list_any};
+ghost use Rattle.hq_load_index.specs.Indexes.{IsOver, columns_of, entries_of};
+ghost use Rattle.hq_sql_constants.specs.Ranged.{HaveSame, IsIn, Narrows, StandsBetween};
+ghost use Rattle.hq_sql_scans.specs.Positions.{positions_of};
+
+use crate::marked::{mark_rows, places_marked};
+use crate::ranged::Bound;
+use hq_base::Memory;
+use hq_load_index::Index;
+use hq_load_tables::Rows;
+use hq_model::{ColId, Op};
+use hq_sql_scans::positions::Positions;
+use std::alloc::Global;
+use std::slice;
+
+/// The entries from one on, up to, and without, another.
+#[derive(Clone, Copy)]
+pub(crate) struct Between {
+    pub from: usize,
+    pub to: usize,
+}
+
+// Those of them from a place on.
+fn from_on(span: Between, place: usize) -> Between
+    requires { span.from ≤ span.to }
+    ensures ordered { result.from ≤ result.to }
+    ensures within { result.to ≤ span.to }
+    ensures keeps { (i : ℕ) → IsIn span i → place ≤ i → IsIn result i }
+{
+    if place <= span.from {
+        return span;
+    }
+    if place > span.to {
+        return Between {
+            from: span.to,
+            to: span.to,
+        };
+    }
+    Between {
+        from: place,
+        to: span.to,
+    }
+}
+
+// Those of them before a place.
+fn up_to(span: Between, place: usize) -> Between
+    requires { span.from ≤ span.to }
+    ensures ordered { result.from ≤ result.to }
+    ensures within { result.to ≤ span.to }
+    ensures keeps { (i : ℕ) → IsIn span i → i < place → IsIn result i }
+{
+    if place >= span.to {
+        return span;
+    }
+    if place < span.from {
+        return Between {
+            from: span.from,
+            to: span.from,
+        };
+    }
+    Between {
+        from: span.from,
+        to: place,
+    }
+}
+
+// Those of them whose rows meet a comparison.
+fn narrowed(
+    rows: &Rows,
+    index: &Index,
+    column: ColId,
+    bound: &Bound<'_>,
+    span: Between,
+) -> Between
+    requires over { IsOver rows.now index.now }
+    requires columns { columns_of index.now ≡ column ∷ [] }
+    requires ordered { span.from ≤ span.to }
+    ensures { Narrows column rows.now (entries_of index.now) bound.now span result }
+{
+    let grid = rows.grid();
+    let key = slice::from_ref(&bound.value);
+    match bound.op {
+        Op::Gt => from_on(span, index.place(grid, key, true)),
+        Op::Ge => from_on(span, index.place(grid, key, false)),
+        Op::Lt => up_to(span, index.place(grid, key, false)),
+        Op::Le => up_to(span, index.place(grid, key, true)),
+        Op::Eq | Op::Ne => span,
+    }
+}
+
+/// The entries of an index whose rows meet comparisons in its column.
+#[tactic(auto, using(crate::proofs::RangeEntries::span_first, crate::proofs::RangeEntries::span_more, crate::proofs::RangeEntries::span_end))]
+pub(crate) fn span_of(rows: &Rows, index: &Index, column: ColId, bounds: &[Bound<'_>]) -> Between
+    requires over { IsOver rows.now index.now }
+    requires columns { columns_of index.now ≡ column ∷ [] }
+    ensures { StandsBetween column rows.now (entries_of index.now) bounds.now result }
+{
+    let mut span = Between {
+        from: 0,
+        to: index.len(),
+    };
+    for bound in bounds {
+        span = narrowed(rows, index, column, bound, span);
+    }
+    span
+}
+
+// Of each row of a table, whether it is one of these.
+fn marks_of(alloc: Global, rows: &Rows, found: &[u32]) -> Result<Vec<bool>, Memory>
+    ensures { IfOk result (λ marks. (t : ℕ) → t < length rows.now → slice_index_or marks.items t false ≡ list_any (λ u. u == t) found.now) }
+{
+    let mut marks = Vec::from_elem(alloc, false, rows.len())?;
+    mark_rows(&mut marks, found);
+    Ok(marks)
+}
+
+/// Those of the places that the entries between two are of.
+pub(crate) fn places_between(
+    alloc: Global,
+    rows: &Rows,
+    index: &Index,
+    column: ColId,
+    bounds: &[Bound<'_>],
+    span: Between,
+    positions: Positions<'_>,
+) -> Result<Vec<u32>, Memory>
+    requires over { IsOver rows.now index.now }
+    requires columns { columns_of index.now ≡ column ∷ [] }
+    requires some { 0 < length bounds.now }
+    requires between { StandsBetween column rows.now (entries_of index.now) bounds.now span }
+    ensures { IfOk result (λ places. HaveSame column rows.now bounds.now places.items (positions_of positions.entry)) }
+{
+    let found = index.between(span.from, span.to);
+    let marks = marks_of(alloc, rows, found)?;
+    places_marked(alloc, positions, marks.as_slice())
+}
