@@ -3,3 +3,4 @@ pub mod Sorted
 pub mod Objects
 pub mod Pieces
 pub mod Groups
+pub mod TableCells

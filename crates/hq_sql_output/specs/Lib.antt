@@ -3,3 +3,4 @@ pub mod Placed
 pub mod Selected
 pub mod Texts
 pub mod Listed
+pub mod TableRows

@@ -1,22 +1,27 @@
 //! Aggregates over columns of a FROM without joins: they are taken at the places of its rows, and no rows are made.
 ghost use Rattle.std.specs.Prelude.{◌≡◌, ◌++◌, [], map, IfOk, IfSome, OnOk};
+ghost use Rattle.hq_load_index.specs.Keys.{cell_in};
 ghost use Rattle.hq_sql_cells.specs.View.{cell_view};
 ghost use Rattle.hq_sql_tree.specs.Meaning.{cell_named, taken, value};
 ghost use Rattle.hq_sql_tree.specs.View.{agg_view, expr_view, pair_view};
 ghost use Rattle.hq_sql_access.specs.View.{names_of, row_in, world_of};
 ghost use Rattle.hq_sql_output.specs.Grouped.{AreRows, IsColumn, IsColumnOf, group_at};
+ghost use Rattle.hq_sql_output.specs.TableRows.{values_at};
 ghost use Rattle.hq_sql_output.specs.Texts.{grouped_text, lent_fold, pairs_text};
 
 use crate::listed::{output_of, rows_in};
 use crate::parts::{put_cell, put_separator};
 use crate::places::{Placed, placed_rows, places_of};
+use crate::table_rows::{TableRows, column_named, table_rows};
 use hq_base::{Bytes, Memory, Txt, put_quoted};
+use hq_model::ColId;
 use hq_sql_access::pinned::Pinned;
 use hq_sql_access::place::JoinedRow;
 use hq_sql_access::row::cell_at;
-use hq_sql_access::scope::{Group, Scope, alias_of, row_at};
+use hq_sql_access::scope::{Group, Scope, Source, alias_of, row_at};
 use hq_sql_access::stages::stages;
 use hq_sql_cells::{Cell, aggregated, counted};
+use hq_sql_constants::cell_in;
 use hq_sql_select::{made_of, rows, value};
 use hq_sql_tree::{Agg, Expr, ExprPairList, Out, Select};
 use std::alloc::Global;
@@ -30,7 +35,40 @@ pub struct Grouped<'s, 'd> {
     pub places: &'s [JoinedRow<'d>],
 }
 
-// The cells of a column of FROM.
+// The cells of a name in the rows of a FROM.
+fn cells_named<'d>(
+    alloc: Global,
+    name: &Txt,
+    source: Source<'_, 'd>,
+    places: &[JoinedRow<'d>],
+) -> Result<Vec<Cell<'d>>, Memory>
+    ensures { IfOk result (λ cells. map cell_view cells.items ≡ map (λ p. cell_named (row_in source.entry p.position) name.now) places.now) }
+{
+    let mut cells = Vec::with_capacity(alloc, places.len())?;
+    for place in places {
+        let row = row_at(source, place.position);
+        cells.push(cell_at(alloc, row, name)?)?;
+    }
+    Ok(cells)
+}
+
+// The cells in a column of a table.
+fn cells_in<'d>(
+    alloc: Global,
+    column: ColId,
+    table: &TableRows<'d>,
+    places: &[JoinedRow<'d>],
+) -> Result<Vec<Cell<'d>>, Memory>
+    ensures { IfOk result (λ cells. map cell_view cells.items ≡ map (λ p. cell_in (values_at table.now p.position) column) places.now) }
+{
+    let mut cells = Vec::with_capacity(alloc, places.len())?;
+    for place in places {
+        cells.push(cell_in(table.rows.row(place.position), column))?;
+    }
+    Ok(cells)
+}
+
+// The cells of a column of FROM, which is found once where it is a table's.
 fn cells_of<'d>(
     alloc: Global,
     name: &Txt,
@@ -39,12 +77,13 @@ fn cells_of<'d>(
 ) -> Result<Vec<Cell<'d>>, Memory>
     ensures { IfOk result (λ cells. map cell_view cells.items ≡ map (λ p. cell_named (row_in placed.now.source p.position) name.now) places.now) }
 {
-    let mut cells = Vec::with_capacity(alloc, places.len())?;
-    for place in places {
-        let row = row_at(placed.source, place.position);
-        cells.push(cell_at(alloc, row, name)?)?;
+    let Some(table) = table_rows(placed.source) else {
+        return cells_named(alloc, name, placed.source, places);
+    };
+    match column_named(table.columns, name) {
+        Some(column) => cells_in(alloc, column, &table, places),
+        None => cells_named(alloc, name, placed.source, places),
     }
-    Ok(cells)
 }
 
 // The name of a column of an alias.

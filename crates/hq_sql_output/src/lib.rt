@@ -7,6 +7,7 @@ mod listed;
 mod parts;
 mod places;
 mod statement;
+mod table_rows;
 mod written;
 
 pub use statement::answer;
