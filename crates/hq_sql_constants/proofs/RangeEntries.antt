@@ -9,8 +9,8 @@ use Rattle.hq_base.specs.Cells.{CellTree, null, int, text, bool, json, cell_cmp}
 use Rattle.hq_base.specs.Lists.{put, sort}
 use Rattle.hq_base.specs.declared.value.Val.{Val}
 use Rattle.hq_load_index.proofs.Sorted.{filter_weaker}
-use Rattle.hq_load_index.specs.Indexes.{by_key, counted, indexed_rows, key_at}
-use Rattle.hq_load_index.specs.Keys.{cell_in, cell_view, has_null, keys_cmp}
+use Rattle.hq_load_index.specs.Indexes.{by_key, counted, indexed_rows}
+use Rattle.hq_load_index.specs.Keys.{cell_in, cell_view, has_null, key_at, keys_cmp}
 use Rattle.hq_load_index.specs.Places.{IsPlace, before_or}
 use Rattle.hq_load_index.specs.declared.key.KeyCell.{KeyCell}
 use Rattle.hq_model.proofs.CellOrders.{cell_cmp_between, then_equal}
