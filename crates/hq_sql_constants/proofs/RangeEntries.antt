@@ -2,11 +2,15 @@
 use Rattle.std.proofs.Common.{◌≡◌, ◌∙◌, ◌<◌, ◌≤◌, ◌+◌, ◌-◌, ⊎_elim, ℕ, zero, suc, List, [], ◌∷◌, ◌++◌, filter, length, get_or, map, take, drop, Bool, true, false, not, ◌&&◌, ◌||◌, cond, Option, None, Some, Ordering, Less, Equal, Greater, is_gt, is_lt, is_ge, is_le, refl, sym, ap, ap₂, subst, add-one, arith}
 use Rattle.std.specs.Prelude.{◌==◌}
 use Rattle.std.specs.List.{list_any}
+use Rattle.std.specs.Ordering.{nat_cmp}
 use Rattle.std.proofs.Math.Seq.{take-suc}
 use Rattle.std.proofs.lemmas.Bool.{and_parts, cases_lt, eqb-false, eqb-true, false≢true}
+use Rattle.std.proofs.lemmas.Cmp.{nat_cmp_total}
 use Rattle.std.proofs.lemmas.List.{get_or_past, take_all}
+use Rattle.std.proofs.lemmas.Map.Keys.{le_from_not_gt}
 use Rattle.hq_base.specs.Cells.{CellTree, null, int, text, bool, json, cell_cmp}
-use Rattle.hq_base.specs.Lists.{put, sort}
+use Rattle.hq_base.specs.Lists.{Ascends, Before, Each, put, sort}
+use Rattle.hq_base.proofs.Sorts.{commute, sort_ascending, sort_filter, turned}
 use Rattle.hq_base.specs.declared.value.Val.{Val}
 use Rattle.hq_load_index.proofs.Sorted.{filter_weaker}
 use Rattle.hq_load_index.specs.Indexes.{by_key, counted, indexed_rows}
@@ -265,3 +269,62 @@ marked_same column rows entries own bs s marks ps places some alone is h set cho
     ap (filter q) chosen
     ∙ filter_weaker q (λ k. get_or marks k false)
     (λ k e. ⊎_elim (λ near. set k near ∙ meets_marked column rows entries bs s k some over h near e) (λ far. absurd (past k far e)) (cases_lt k (length rows))) ps
+
+-- ---- rows in file order
+
+-- numbers in a row stand in order
+counted_before : (low from count : ℕ) → low < from → Each (Before nat_cmp low) (counted from count)
+counted_before low from zero lt = tt
+counted_before low from (suc count) lt = (not_more low from lt, counted_before low (suc from) count (omega (arith, lt)))
+  where
+    not_more : (a b : ℕ) → a < b → is_gt (nat_cmp a b) ≡ false
+    not_more a b lt =
+        let go : (c : Bool) → is_gt (nat_cmp a b) ≡ c → is_gt (nat_cmp a b) ≡ false =
+        elim [ true ↦ λ e. (let le : b ≤ a = le_from_not_gt b a (turned nat_cmp_total a b e) in absurd (omega (arith, lt, le))) | false ↦ λ e. e ] in
+        go (is_gt (nat_cmp a b)) refl
+
+counted_ascends : (from count : ℕ) → Ascends nat_cmp (counted from count)
+counted_ascends from zero = tt
+counted_ascends from (suc count) = (counted_before from (suc from) count (omega arith), counted_ascends (suc from) count)
+
+-- two numbers may be put in either order
+put_either : (x y : ℕ) (zs : List ℕ) → put nat_cmp x (put nat_cmp y zs) ≡ put nat_cmp y (put nat_cmp x zs)
+put_either x y zs =
+    let go : (b c : Bool) → is_gt (nat_cmp x y) ≡ b → is_gt (nat_cmp y x) ≡ c → put nat_cmp x (put nat_cmp y zs) ≡ put nat_cmp y (put nat_cmp x zs) =
+    elim [
+      | true ↦ λ c g k. commute nat_cmp_total y x (turned nat_cmp_total x y g) g zs
+      | false ↦ elim [
+        | true ↦ λ g k. sym (commute nat_cmp_total x y g k zs)
+        | false ↦ λ g k. ap₂ (λ a b. put nat_cmp a (put nat_cmp b zs)) (alike x y g k) (sym (alike x y g k))
+      ]
+    ] in
+    go (is_gt (nat_cmp x y)) (is_gt (nat_cmp y x)) refl refl
+  where
+    alike : (a b : ℕ) → is_gt (nat_cmp a b) ≡ false → is_gt (nat_cmp b a) ≡ false → a ≡ b
+    alike a b g k = let le : a ≤ b = le_from_not_gt a b g in let ge : b ≤ a = le_from_not_gt b a k in omega (arith, le, ge)
+
+sort_put : (R : ℕ → ℕ → Ordering) (x : ℕ) (ys : List ℕ) → sort nat_cmp (put R x ys) ≡ put nat_cmp x (sort nat_cmp ys)
+sort_put R x [] = refl
+sort_put R x (y ∷ ys) =
+    let later = sort_put R x ys in
+    let go : (b : Bool) → sort nat_cmp (cond b (y ∷ put R x ys) (x ∷ (y ∷ ys))) ≡ put nat_cmp x (put nat_cmp y (sort nat_cmp ys)) =
+    elim [ true ↦ ap (put nat_cmp y) later ∙ put_either y x (sort nat_cmp ys) | false ↦ refl ] in
+    go (is_gt (R x y))
+
+-- however numbers were sorted before, a sort of them is one of those
+sort_again : (R : ℕ → ℕ → Ordering) (xs : List ℕ) → sort nat_cmp (sort R xs) ≡ sort nat_cmp xs
+sort_again R [] = refl
+sort_again R (x ∷ xs) = sort_put R x (sort R xs) ∙ ap (put nat_cmp x) (sort_again R xs)
+
+-- the entries between two places, in file order, have the same of the rows that meet comparisons as all rows
+pub sorted_same : (column : ℕ) (rows : List (List Val)) (entries own : List ℕ) (bs : List Bound) (s : Between) (ps places : List ℕ) → 0 < length bs
+    → own ≡ column ∷ [] → entries ≡ indexed_rows own rows → StandsBetween column rows entries bs s → ps ≡ counted 0 (length rows)
+    → places ≡ sort nat_cmp (take (s.to - s.from) (drop s.from entries)) → HaveSame column rows bs places ps
+sorted_same column rows entries own bs s ps places some alone is h all chosen =
+    let q = row_meets column rows bs in
+    let R = by_key (column ∷ []) rows in
+    let count = counted 0 (length rows) in
+    let over : entries ≡ indexed_rows (column ∷ []) rows = is ∙ ap (λ cs. indexed_rows cs rows) alone in
+    ap (filter q) chosen ∙ sort_filter nat_cmp_total q (take (s.to - s.from) (drop s.from entries))
+    ∙ ap (sort nat_cmp) (span_sorted column rows entries bs s some over h) ∙ sym (sort_filter nat_cmp_total q (sort R count))
+    ∙ ap (filter q) (sort_again R count ∙ sort_ascending nat_cmp_total count (counted_ascends 0 (length rows))) ∙ ap (filter q) (sym all)

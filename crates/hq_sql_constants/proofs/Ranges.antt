@@ -1,11 +1,10 @@
 -- Conditions that ask a column to be in a range.
-use Rattle.std.proofs.Common.{◌≡◌, ◌∙◌, ◌<◌, ◌+◌, ℕ, List, [], ◌∷◌, ◌++◌, map, length, get_or, Bool, true, false, ◌&&◌, refl, sym, ap, ap₂, subst, arith}
+use Rattle.std.proofs.Common.{◌≡◌, ◌∙◌, ◌<◌, ℕ, List, [], ◌∷◌, ◌++◌, map, length, get_or, Bool, true, false, ◌&&◌, refl, sym, ap, ap₂, subst, arith}
 use Rattle.hq_base.proofs.Lists.{map_map}
 use Rattle.hq_base.specs.Cells.{CellTree}
 use Rattle.hq_load_index.specs.Keys.{cell_view}
 use Rattle.hq_model.specs.Logic.{is_true}
 use Rattle.hq_model.specs.Tests.{test_truth}
-use Rattle.hq_model.specs.declared.op.Op.{Op}
 use Rattle.hq_model.specs.declared.test.Test.{Test}
 use Rattle.hq_model.specs.declared.test.Test.TheVariants.{Compare}
 use Rattle.hq_sql_access.specs.Equations.{is_column}

@@ -1,5 +1,5 @@
 //! Conditions that ask columns of a table for something that constants tell. Scans whose WHERE asks a column to be one of many
-//! constants, or like a long pattern: rows that have none of them, or are not like it, are left out before WHERE is tried. Tests of
+//! constants, in a range of few rows, or like a long pattern: rows that are not are left out before WHERE is tried. Tests of
 //! columns beside constants are tried at the values of rows, without a scope. What an EXISTS whose keys are known asks of a column is that it is one of
 //! these.
 #![tactic(auto)]

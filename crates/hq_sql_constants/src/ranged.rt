@@ -109,12 +109,7 @@ fn has_index(rows: &Rows, columns: &[Column], name: &Txt) -> bool {
 }
 
 // The name of the column with an index that a test compares with a constant.
-fn name_of<'d>(
-    pred: &'d Pred,
-    rows: &Rows,
-    columns: &[Column],
-    alias: &Txt,
-) -> Option<&'d Txt> {
+fn name_of<'d>(pred: &'d Pred, rows: &Rows, columns: &[Column], alias: &Txt) -> Option<&'d Txt> {
     let name = tested_name(pred, alias)?;
     if of_pred(pred, alias, name).is_some() && has_index(rows, columns, name) {
         return Some(name);

@@ -23,13 +23,13 @@ use hq_base::{Memory, Txt};
 use hq_load_index::Index;
 use hq_load_tables::Rows;
 use hq_model::ColId;
-use hq_sql_access::equations::{first_named, is_joined};
+use hq_sql_access::equations::{equal_to, first_named, is_joined};
 use hq_sql_access::pinned::Pinned;
 use hq_sql_access::scope::Source;
 use hq_sql_access::stored::Stored;
 use hq_sql_scans::ordered::Looked;
 use hq_sql_scans::positions::{Positions, number_of};
-use hq_sql_tree::{Join, Pred};
+use hq_sql_tree::{Expr, Join, Pred};
 use std::alloc::Global;
 
 // Of fewer places none is worth to be left out.
@@ -37,6 +37,9 @@ const FEW: usize = 64;
 
 // More than one in so many places is not worth to be found by an index.
 const PART: usize = 4;
+
+// So many rows are found by an index before a few of them are looked for.
+const SMALL: usize = 1024;
 
 // So many constants are too many to be looked up.
 const MOST: usize = 1 << 24;
@@ -190,9 +193,22 @@ fn sifted_by_pattern<'d>(
     }
 }
 
-// Whether so many entries are few beside so many places.
-fn are_few(span: Between, number: usize) -> bool {
-    span.to.saturating_sub(span.from) <= number / PART
+// Whether the rows between two entries are few enough beside these places. Where the scan may end before it has looked at all of
+// them, they are to be very few. Those of a key are few as they are, and in the order of an index a scan ends at its page.
+fn is_worth(span: Between, positions: Positions<'_>, whole: bool) -> bool {
+    let number = span.to.saturating_sub(span.from);
+    match positions {
+        Positions::All(all) => number <= all / PART && (whole || number <= SMALL),
+        Positions::Entries(_) | Positions::Ordered(_) | Positions::Backward(_) => false,
+    }
+}
+
+// Whether all places are there.
+fn are_all(positions: Positions<'_>) -> bool {
+    match positions {
+        Positions::All(_) => true,
+        Positions::Entries(_) | Positions::Ordered(_) | Positions::Backward(_) => false,
+    }
 }
 
 // Those of the places whose rows stand in the range in which a condition asks a column with an index to be, where these are few.
@@ -205,6 +221,7 @@ fn sifted_between<'d>(
     pred: &Pred,
     asked: Ranged<'_>,
     positions: Positions<'_>,
+    whole: bool,
     world: &Pinned<'_>,
 ) -> Result<Option<Vec<u32>>, Memory>
     requires joined { is_joined (joins_of (map join_view joins.now)) alias.now ≡ false }
@@ -224,14 +241,68 @@ fn sifted_between<'d>(
     };
     let bounds = asked.bounds.as_slice();
     let span = span_of(rows, index, column, bounds);
-    if !are_few(span, number_of(positions)) {
+    if !is_worth(span, positions, whole) {
         return Ok(None);
     }
     let places = places_between(alloc, rows, index, column, bounds, span, positions)?;
     Ok(Some(places))
 }
 
-// The same of a condition, where it asks a column with an index to be in a range. The places of a key are few as they are.
+// Whether the range that a column is asked to be in has few rows.
+fn has_few<'d>(stored: &'d Stored<'d>, rows: &Rows, asked: &Ranged<'_>) -> bool {
+    let Some(at) = first_named(stored.table.columns.as_slice(), asked.name) else {
+        return false;
+    };
+    let column = ColId::new(at);
+    match index_over(rows, column) {
+        Some(index) => {
+            let span = span_of(rows, index, column, asked.bounds.as_slice());
+            is_worth(span, Positions::All(rows.len()), true)
+        }
+        None => false,
+    }
+}
+
+// Whether a condition asks a column to equal another.
+fn is_link(pred: &Pred) -> bool {
+    match pred {
+        Pred::Test { test, operands, .. } => {
+            matches!(equal_to(*test, operands), Some(Expr::Column { .. }))
+        }
+        _ => false,
+    }
+}
+
+// The same of a member of an AND.
+fn has_link(pred: &Pred) -> bool {
+    match pred {
+        Pred::And(preds) => preds.as_slice().iter().any(is_link),
+        _ => is_link(pred),
+    }
+}
+
+// Whether a condition asks a column with an index to be in a range of few rows. One that asks a column to equal another is asked
+// again at each row around it, and looks at the places of a key.
+fn asks_few<'d>(
+    alloc: Global,
+    stored: &'d Stored<'d>,
+    alias: &Txt,
+    pred: &Pred,
+) -> Result<bool, Memory> {
+    let Some(rows) = stored.rows else {
+        return Ok(false);
+    };
+    if rows.len() < FEW || has_link(pred) {
+        return Ok(false);
+    }
+    let columns = stored.table.columns.as_slice();
+    match ranged_in(alloc, pred, rows, columns, alias)? {
+        Some(asked) => Ok(has_few(stored, rows, &asked)),
+        None => Ok(false),
+    }
+}
+
+// The same of a condition, where it asks a column with an index to be in a range.
 fn sifted_by_range<'d>(
     alloc: Global,
     stored: &'d Stored<'d>,
@@ -240,6 +311,7 @@ fn sifted_by_range<'d>(
     joins: &[Join],
     pred: &Pred,
     positions: Positions<'_>,
+    whole: bool,
     world: &Pinned<'_>,
 ) -> Result<Option<Vec<u32>>, Memory>
     requires joined { is_joined (joins_of (map join_view joins.now)) alias.now ≡ false }
@@ -249,13 +321,13 @@ fn sifted_by_range<'d>(
         (λ places. KeepsSame (world_of world.now) (joins_of (map join_view joins.now)) alias.now (filtered (pred_view pred.now))
         (map (row_in (source.Stored stored.entry)) places.items) (rows_at (source.Stored stored.entry) positions.entry))) }
 {
-    if let Positions::Entries(_) = positions {
+    if !are_all(positions) {
         return Ok(None);
     }
     let columns = stored.table.columns.as_slice();
     match ranged_in(alloc, pred, rows, columns, alias)? {
         Some(asked) => sifted_between(
-            alloc, stored, rows, alias, joins, pred, asked, positions, world,
+            alloc, stored, rows, alias, joins, pred, asked, positions, whole, world,
         ),
         None => Ok(None),
     }
@@ -270,6 +342,7 @@ fn sifted_further<'d>(
     joins: &[Join],
     pred: &Pred,
     positions: Positions<'_>,
+    whole: bool,
     world: &Pinned<'_>,
 ) -> Result<Option<Vec<u32>>, Memory>
     requires joined { is_joined (joins_of (map join_view joins.now)) alias.now ≡ false }
@@ -279,7 +352,9 @@ fn sifted_further<'d>(
         (λ places. KeepsSame (world_of world.now) (joins_of (map join_view joins.now)) alias.now (filtered (pred_view pred.now))
         (map (row_in (source.Stored stored.entry)) places.items) (rows_at (source.Stored stored.entry) positions.entry))) }
 {
-    match sifted_by_range(alloc, stored, rows, alias, joins, pred, positions, world)? {
+    match sifted_by_range(
+        alloc, stored, rows, alias, joins, pred, positions, whole, world,
+    )? {
         Some(places) => Ok(Some(places)),
         None => sifted_by_pattern(alloc, stored, rows, alias, joins, pred, positions, world),
     }
@@ -293,6 +368,7 @@ fn sifted_rows<'d>(
     joins: &[Join],
     pred: &Pred,
     positions: Positions<'_>,
+    whole: bool,
     world: &Pinned<'_>,
 ) -> Result<Option<Vec<u32>>, Memory>
     requires { is_joined (joins_of (map join_view joins.now)) alias.now ≡ false }
@@ -308,7 +384,9 @@ fn sifted_rows<'d>(
         Some(asked) => sifted_by(
             alloc, stored, rows, alias, joins, pred, asked, positions, world,
         ),
-        None => sifted_further(alloc, stored, rows, alias, joins, pred, positions, world),
+        None => sifted_further(
+            alloc, stored, rows, alias, joins, pred, positions, whole, world,
+        ),
     }
 }
 
@@ -321,6 +399,7 @@ fn sifted<'s, 'd>(
     joins: &[Join],
     filter: &Option<Pred>,
     positions: Positions<'_>,
+    whole: bool,
     world: &Pinned<'_>,
 ) -> Result<Option<Vec<u32>>, Memory>
     ensures { IfOk result
@@ -334,7 +413,7 @@ fn sifted<'s, 'd>(
     if number_of(positions) < FEW || is_joined(joins, alias) {
         return Ok(None);
     }
-    sifted_rows(alloc, stored, alias, joins, pred, positions, world)
+    sifted_rows(alloc, stored, alias, joins, pred, positions, whole, world)
 }
 
 // The places at which a scan looks, however they stand.
@@ -348,8 +427,16 @@ fn places_looked(looked: Looked<'_>) -> Positions<'_>
     }
 }
 
-/// Those of the places at which a scan looks that WHERE may keep a row at, where it asks a column to be one of many constants; None
-/// where all are to be tried.
+// Whether a scan looks at all its places: with LIMIT it may end before, unless what it finds is sorted.
+fn looks_at_all(looked: Looked<'_>, limit: Option<u64>) -> bool {
+    match looked {
+        Looked::Unsorted(_) => true,
+        Looked::Arranged(_) | Looked::Sorted(_) => limit.is_none(),
+    }
+}
+
+/// Those of the places at which a scan looks that WHERE may keep a row at, where it asks a column to be one of many constants, or in
+/// a range of few rows; None where all are to be tried.
 pub fn left_of<'s, 'd>(
     alloc: Global,
     source: Source<'s, 'd>,
@@ -357,6 +444,7 @@ pub fn left_of<'s, 'd>(
     joins: &[Join],
     filter: &Option<Pred>,
     looked: Looked<'_>,
+    limit: Option<u64>,
     world: &Pinned<'_>,
 ) -> Result<Option<Vec<u32>>, Memory>
     ensures { IfOk result
@@ -371,6 +459,7 @@ pub fn left_of<'s, 'd>(
         joins,
         filter,
         places_looked(looked),
+        looks_at_all(looked, limit),
         world,
     )
 }
@@ -396,11 +485,29 @@ pub fn with_left<'p>(looked: Looked<'p>, left: &'p Option<Vec<u32>>) -> Looked<'
     }
 }
 
-/// Whether a condition, or a part of an AND, has many operands or conditions, or its keys are known.
-pub fn has_many(filter: &Option<Pred>, world: &Pinned<'_>) -> bool {
+// Whether a condition, or a part of an AND, has many operands or conditions, or its keys are known.
+fn asks_many(filter: &Option<Pred>, world: &Pinned<'_>) -> bool {
     match filter {
         Some(Pred::And(preds)) => preds.as_slice().iter().any(|p| is_many(p, world)),
         Some(pred) => is_many(pred, world),
         None => false,
+    }
+}
+
+/// Whether it is worth to find the rows of a source that WHERE keeps before any of them is written: it asks for one of many
+/// constants, or for a range of few rows of a table. Where a range has more rows, they are written one by one, as others are.
+pub fn has_many<'s, 'd>(
+    alloc: Global,
+    source: Source<'s, 'd>,
+    alias: &Txt,
+    filter: &Option<Pred>,
+    world: &Pinned<'_>,
+) -> Result<bool, Memory> {
+    if asks_many(filter, world) {
+        return Ok(true);
+    }
+    match (source, filter) {
+        (Source::Stored(stored), Some(pred)) => asks_few(alloc, stored, alias, pred),
+        _ => Ok(false),
     }
 }

@@ -1,7 +1,9 @@
 //! The entries of an index over one column whose rows meet comparisons of it with constants.
-ghost use Rattle.std.specs.Prelude.{◌≡◌, ◌∷◌, ◌<◌, ◌≤◌, ◌==◌, ℕ, [], false, filter, length, take, drop, ◌-◌, IfOk, slice_index_or};
+ghost use Rattle.std.specs.Prelude.{◌≡◌, ◌∷◌, ◌<◌, ◌≤◌, ◌==◌, ℕ, [], false, true, filter, length, take, drop, ◌-◌, IfOk, OnOk, slice_index_or};
 ghost use Rattle.std.specs.List.{list_any};
-ghost use Rattle.hq_load_index.specs.Indexes.{IsOver, columns_of, entries_of};
+ghost use Rattle.std.specs.Ordering.{nat_cmp};
+ghost use Rattle.hq_base.specs.Lists.{sort};
+ghost use Rattle.hq_load_index.specs.Indexes.{IsOver, columns_of, counted, entries_of};
 ghost use Rattle.hq_sql_constants.specs.Ranged.{HaveSame, IsIn, Narrows, StandsBetween};
 ghost use Rattle.hq_sql_scans.specs.Positions.{positions_of};
 
@@ -67,13 +69,7 @@ fn up_to(span: Between, place: usize) -> Between
 }
 
 // Those of them whose rows meet a comparison.
-fn narrowed(
-    rows: &Rows,
-    index: &Index,
-    column: ColId,
-    bound: &Bound<'_>,
-    span: Between,
-) -> Between
+fn narrowed(rows: &Rows, index: &Index, column: ColId, bound: &Bound<'_>, span: Between) -> Between
     requires over { IsOver rows.now index.now }
     requires columns { columns_of index.now ≡ column ∷ [] }
     requires ordered { span.from ≤ span.to }
@@ -116,6 +112,36 @@ fn marks_of(alloc: Global, rows: &Rows, found: &[u32]) -> Result<Vec<bool>, Memo
     Ok(marks)
 }
 
+fn sort_places(places: &mut Vec<u32>) -> Result<(), Memory>
+    ensures { OnOk result (places.new.items ≡ sort nat_cmp places.old.items) }
+{
+    places.sort_by(|left, right| left.cmp(right))?;
+    Ok(())
+}
+
+// These rows in file order.
+fn in_file_order(alloc: Global, found: &[u32]) -> Result<Vec<u32>, Memory>
+    ensures { IfOk result (λ places. places.items ≡ sort nat_cmp found.now) }
+{
+    let mut places = Vec::with_capacity(alloc, found.len())?;
+    places.extend_from_slice(found)?;
+    sort_places(&mut places)?;
+    Ok(places)
+}
+
+// Fewer rows are sorted, others are marked.
+const FEW: usize = 1024;
+
+// Whether these places are those of all rows, of which few are found.
+fn are_few_of_all(rows: &Rows, positions: Positions<'_>, found: &[u32]) -> bool
+    ensures { result ≡ true → positions_of positions.entry ≡ counted 0 (length rows.now) }
+{
+    match positions {
+        Positions::All(number) => number == rows.len() && found.len() <= FEW,
+        Positions::Entries(_) | Positions::Ordered(_) | Positions::Backward(_) => false,
+    }
+}
+
 /// Those of the places that the entries between two are of.
 pub(crate) fn places_between(
     alloc: Global,
@@ -133,6 +159,9 @@ pub(crate) fn places_between(
     ensures { IfOk result (λ places. HaveSame column rows.now bounds.now places.items (positions_of positions.entry)) }
 {
     let found = index.between(span.from, span.to);
+    if are_few_of_all(rows, positions, found) {
+        return in_file_order(alloc, found);
+    }
     let marks = marks_of(alloc, rows, found)?;
     places_marked(alloc, positions, marks.as_slice())
 }

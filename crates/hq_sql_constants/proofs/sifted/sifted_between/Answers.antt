@@ -1,6 +1,5 @@
-use Rattle.std.proofs.Common.{◌≡◌, ◌<◌, ◌∙◌, [], ◌∷◌, Some, map, bytes_eq, length, sym, ap, subst}
+use Rattle.std.proofs.Common.{◌≡◌, ◌<◌, ◌∙◌, Some, map, bytes_eq, length, sym, ap, subst}
 use Rattle.std.specs.List.{position}
-use Rattle.hq_load_index.specs.Indexes.{columns_of, entries_of}
 use Rattle.hq_model.specs.declared.table.Column.{Column}
 use Rattle.hq_sql_access.specs.Lent.{rows_lent}
 use Rattle.hq_sql_access.specs.View.{world_of}
