@@ -1,7 +1,8 @@
 //! The evaluation of a statement over the tables that are pinned: the answer that it means.
 #![tactic(auto)]
 
-mod learn;
+mod learn_keys;
+mod learn_rows;
 mod matchers;
 mod plain;
 mod remember;

@@ -2,7 +2,8 @@
 //! be had, what its WHERE is at each row, if another EXISTS stands in it. Whatever is learned, the answer is the meaning.
 ghost use Rattle.std.specs.Prelude.{◌≡◌};
 
-use crate::learn::{learned, learned_keys};
+use crate::learn_keys::learned_keys;
+use crate::learn_rows::learned;
 use hq_base::Memory;
 use hq_sql_access::pinned::Pinned;
 use hq_sql_tree::{From, JoinList, Pred, PredList, Select};

@@ -15,7 +15,7 @@ use Rattle.hq_sql_output.specs.declared.grouped.Grouped.{Grouped}
 use Rattle.hq_sql_output.specs.declared.listed.Rows.{Rows}
 
 -- a text is itself
-same : (a : List ℕ) → bytes_eq a a ≡ true
+pub same : (a : List ℕ) → bytes_eq a a ≡ true
 same a = (bytes_eq-Decides a a).1 refl
 
 module _ (g : Grouped) (w : World) (n : Names) (e : ExprTree) (name : List ℕ) (h : IsColumn e g name) where

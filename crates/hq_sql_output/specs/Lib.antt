@@ -4,3 +4,4 @@ pub mod Selected
 pub mod Texts
 pub mod Listed
 pub mod TableRows
+pub mod PlainRows

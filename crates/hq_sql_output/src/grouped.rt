@@ -86,8 +86,8 @@ fn cells_of<'d>(
     }
 }
 
-// The name of a column of an alias.
-fn column_of<'d>(expr: &'d Expr, alias: &Txt) -> Option<&'d Txt>
+/// The name of a column of an alias.
+pub fn column_of<'d>(expr: &'d Expr, alias: &Txt) -> Option<&'d Txt>
     ensures { IfSome result (λ name. IsColumnOf (expr_view expr.now) alias.now name.now) }
 {
     match expr {

@@ -6,6 +6,7 @@ mod grouped;
 mod listed;
 mod parts;
 mod places;
+mod plain_rows;
 mod statement;
 mod table_rows;
 mod written;

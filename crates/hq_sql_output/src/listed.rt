@@ -42,8 +42,8 @@ pub fn output_named<'d>(outs: &'d [Out], name: &Txt) -> Option<&'d Expr>
     None
 }
 
-// The pairs of an object.
-fn pairs_in<'d>(expr: &'d Expr) -> Option<&'d ExprPairList>
+/// The pairs of an object.
+pub fn pairs_in<'d>(expr: &'d Expr) -> Option<&'d ExprPairList>
     ensures { IfSome result (λ pairs. expr_view expr.now ≡ object (pairs_of (map pair_view pairs.now.items))) }
 {
     match expr {

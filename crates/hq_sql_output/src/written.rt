@@ -14,6 +14,7 @@ use crate::parts::{put_cell, put_separator};
 use crate::places::{
     Found, Placed, Wanted, found_rows, has_begun, placed_rows, places_of, stretch,
 };
+use crate::plain_rows::{plain_rows, write_plain};
 use hq_base::{Bytes, Memory, Txt, put_quoted};
 use hq_sql_access::pinned::Pinned;
 use hq_sql_access::place::JoinedRow;
@@ -265,7 +266,8 @@ fn write_found<'d>(
     Ok(())
 }
 
-// An expression at each of these places, with commas between, and one before them where something was written already.
+// An expression at each of these places, with commas between, and one before them where something was written already. Many
+// objects of columns of a table are written without a scope.
 #[cycle(write)]
 fn write_each<'d>(
     alloc: Global,
@@ -279,6 +281,9 @@ fn write_each<'d>(
 ) -> Result<(), Memory>
     ensures { OnOk result (out.new ≡ out.old ++ more_texts begun (map (text_of (expr_view expr.now)) (map (names_there placed.now world.now scope.now) places.now))) }
 {
+    if let Some(plain) = plain_rows(alloc, expr, placed, places.len())? {
+        return write_plain(alloc, &plain, places, begun, out);
+    }
     for (at, place) in places.iter().enumerate() {
         put_separator(out, begun, at)?;
         write_place(alloc, expr, placed, place, world, scope, out)?;

@@ -1,4 +1,4 @@
-use Rattle.std.proofs.Common.{rules, ◌≡◌, ◌≤◌, ◌+◌, ◌∷◌, ◌++◌, ◌||◌, [], None, Some, OnOk, codes, false, map, take, subst, ap, ◌∙◌, sym, arith}
+use Rattle.std.proofs.Common.{rules, ◌≡◌, ◌≤◌, ◌+◌, ◌∷◌, ◌++◌, ◌||◌, [], None, Some, IfSome, OnOk, codes, false, map, take, subst, ap, ◌∙◌, sym, arith}
 use Rattle.std.specs.List.{join_with_byte}
 use Rattle.hq_base.proofs.Lists.{map_map}
 use Rattle.hq_base.specs.Compact.{quoted}
@@ -12,11 +12,13 @@ use Rattle.hq_sql_tree.specs.Meaning.{rows_of, scopes_of}
 use Rattle.hq_sql_access.specs.View.{first_row, world_of, names_of}
 use Rattle.hq_sql_output.specs.Listed.{output_in}
 use Rattle.hq_sql_output.specs.Placed.{names_in, found_before}
+use Rattle.hq_sql_output.specs.PlainRows.{IsPlain}
 use Rattle.hq_sql_output.specs.Selected.{page_of}
-use Rattle.hq_sql_output.specs.Texts.{cell_text, text_of, pair_text, pairs_text}
+use Rattle.hq_sql_output.specs.Texts.{cell_text, more_texts, text_of, pair_text, pairs_text}
 use Rattle.hq_sql_output.proofs.Objects.{named_part, pairs_are, braced, pair_is}
 use Rattle.hq_sql_output.proofs.Outputs.{first_output, no_output}
 use Rattle.hq_sql_output.proofs.Pieces.{has_image, begun_more, one_more, stretched}
+use Rattle.hq_sql_output.proofs.PlainTexts.{plain_texts}
 use Rattle.hq_sql_output.proofs.written.+write.Goals as goal
 
 -- ---- objects
@@ -67,6 +69,16 @@ write_each-loop-at-preserved t c =
     rw (map_map T N (take (c.loop-at.at + 1) xs))
     (one_more (λ p. T (N p)) c.args.begun xs c.loop-at.at c.index-places-at.result c.args.out.now c.loop-at.out c.put_separator.new.out c.write_place.new.out c.loop-at-test.true c.index-places-at.is
     (rw (← (map_map T N (take c.loop-at.at xs))) c.loop-at.invariant) c.in_ok-put_separator.ensures c.in_ok-write_place.ensures)
+
+pub write_each-returns-in-Some : goal.write_each-returns-in-Some
+write_each-returns-in-Some t c =
+    let w = world_of c.args.world.now in
+    let n = names_of c.args.scope.now c.args.world.now in
+    let e = expr_view c.args.expr.now in
+    let plain = c.in-Some.plain in
+    let is : IsPlain e c.args.placed.now plain = subst (λ o. IfSome o (IsPlain e c.args.placed.now)) c.in-Some.is c.in_ok-plain_rows.ensures in
+    subst (λ ts. OnOk c.write_plain.result (c.write_plain.new.out ≡ c.args.out.now ++ more_texts c.args.begun ts))
+    (plain_texts e c.args.placed.now plain w n c.args.places.now is) c.write_plain.ensures
 
 -- ---- outputs of a select
 
