@@ -94,7 +94,7 @@ pub enum Found<'d> {
 }
 
 /// Where the rows of a select are. Those that stand in order, and have no OFFSET and LIMIT, are left where they stand, unless WHERE
-/// asks for one of many constants.
+/// asks for one of many constants, or for a range of few rows.
 pub fn found_rows<'s, 'd>(
     alloc: Global,
     rows: &Rows<'d>,
@@ -105,7 +105,11 @@ pub fn found_rows<'s, 'd>(
     requires { placed.now.joins ≡ rows.now.joins }
     ensures { IfOk result (λ found. found_at found placed.now rows.now.parts.filter.now world.now scope.now ≡ page_at rows.now placed.now world.now scope.now) }
 {
-    if rows.limit.is_some() || rows.offset.is_some() || has_many(rows.parts.filter, world) {
+    let filter = rows.parts.filter;
+    if rows.limit.is_some()
+        || rows.offset.is_some()
+        || has_many(alloc, placed.source, placed.alias, filter, world)?
+    {
         let places = places_of(alloc, rows, placed, world, scope)?;
         return Ok(Found::Places(places));
     }

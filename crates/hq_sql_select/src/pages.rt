@@ -53,7 +53,7 @@ pub fn page<'s, 'd>(
         &*scope,
     )?;
     let filter = parts.filter;
-    let left = left_of(alloc, source, alias, joins, filter, looked, world)?;
+    let left = left_of(alloc, source, alias, joins, filter, looked, limit, world)?;
     let asked = with_left(looked, &left);
     match asked {
         Looked::Arranged(at) => page_front(
