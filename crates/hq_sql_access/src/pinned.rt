@@ -1,4 +1,5 @@
 //! The tables that a statement is evaluated over, and what is known of conditions over them.
+ghost use Rattle.std.proofs.Props.{props};
 ghost use Rattle.std.specs.Prelude.{◌≡◌, ◌<◌, ℕ, length, slice_index_or};
 ghost use Rattle.hq_sql_tree.specs.View.{pred_view};
 ghost use Rattle.hq_sql_access.specs.KeySets.{IsKeySet};
@@ -44,7 +45,7 @@ pub struct Pinned<'d> {
     pub known: Vec<KnownRows<'d>>,
     pub sets: Vec<KeySet<'d>>,
     ghost right: { (i : ℕ) (d : KnownRows) → i < length known.items → IsRight (world_in tables.now) (slice_index_or known.items i d) },
-    ghost keyed: { (i : ℕ) (d : KeySet) → i < length sets.items → IsKeySet (world_in tables.now) (pred_view (slice_index_or sets.items i d).pred.now) (slice_index_or sets.items i d) },
+    ghost keyed: { (i : ℕ) (d : KeySet) → i < length sets.items → IsKeySet (world_in tables.now) (pred_view (slice_index_or sets.items i d).pred.now) (slice_index_or sets.items i d) } by { Prim.hlevel props },
 }
 
 impl<'d> Pinned<'d> {

@@ -1,5 +1,6 @@
 //! Tables with their rows, and indexes over these that a statement wants.
 ghost use Rattle.std.specs.Prelude.{◌≡◌, ◌^◌, ◌<◌, ℕ, true, IfOk, length, slice_index_or};
+ghost use Rattle.std.proofs.Props.{props};
 ghost use Rattle.hq_load_index.specs.Indexes.{IsOver};
 ghost use Rattle.hq_load_index.specs.declared.index.Index.{Index};
 ghost use Rattle.hq_model.specs.Database.{are_rows};
@@ -20,7 +21,7 @@ pub struct Stored<'d> {
     pub rows: Option<&'d Rows>,
     pub more: Vec<Index>,
     ghost valid: { are_rows table.now (rows_lent rows) ≡ true },
-    ghost over: { (i : ℕ) (d : Index) → i < length more.items → IsOver (rows_lent rows) (slice_index_or more.items i d) },
+    ghost over: { (i : ℕ) (d : Index) → i < length more.items → IsOver (rows_lent rows) (slice_index_or more.items i d) } by { Prim.hlevel props },
 }
 
 // A table of no more rows has no index built.

@@ -4,7 +4,8 @@ use Rattle.std.specs.List.{list_any, position}
 use Rattle.std.specs.Global.{Vec}
 use Rattle.std.specs.Prelude.{IfSome}
 use Rattle.std.proofs.Math.Seq.{take-suc}
-use Rattle.std.proofs.lemmas.Bool.{false≢true, cases_lt}
+use Rattle.std.specs.Prelude.{◌==◌}
+use Rattle.std.proofs.lemmas.Bool.{eq-eqb, false≢true, cases_lt}
 use Rattle.std.proofs.lemmas.List.{length-map, take_all, get_or_past}
 use Rattle.std.proofs.lemmas.List.Concat.{flat_map-cons}
 use Rattle.std.proofs.lemmas.List.Elements.{filter-append}
@@ -12,6 +13,7 @@ use Rattle.hq_base.specs.Cells.{CellTree, cell_of}
 use Rattle.hq_base.specs.Lists.{Each}
 use Rattle.hq_base.specs.declared.value.Val.{Val}
 use Rattle.hq_base.specs.declared.value.Val.TheVariants as val
+use Rattle.hq_base.proofs.Orders.{same_value}
 use Rattle.hq_base.proofs.Lists.{any_map_of, each_weaken, filter_map_of}
 use Rattle.hq_load_index.proofs.Chunked.{chunked_flat, length-chunked}
 use Rattle.hq_load_index.proofs.Sorted.{filter_weaker}
@@ -36,9 +38,11 @@ use Rattle.hq_sql_tree.specs.Tree as tree
 use Rattle.hq_sql_tree.specs.Tree.{JoinTrees, PredTree}
 use Rattle.hq_sql_tree.specs.View.{filter_view}
 use Rattle.hq_sql_constants.specs.Listed.{AsksOneOf, is_one_of}
+use Rattle.hq_sql_constants.proofs.RangeEntries.{cells_stand}
+use Rattle.hq_model.specs.declared.op.Op.TheVariants.{Eq}
 use Rattle.hq_sql_constants.specs.Patterns.{AsksLike, is_like}
 use Rattle.hq_sql_constants.specs.Ranged.{AsksRange, HaveSame, meets_all}
-use Rattle.hq_sql_constants.specs.Sifted.{AreConstants, FindsOver, IsLeft, KeepsSame, MarksAll, as_looked, has_constant, places_looked, with_places}
+use Rattle.hq_sql_constants.specs.Sifted.{AreConstants, AreTaken, FindsOver, HasSlots, IsLeft, KeepsSame, MarksAll, as_looked, has_constant, places_looked, slot_of, with_places}
 use Rattle.hq_sql_constants.specs.declared.marked.Constants.{Constants}
 use Rattle.hq_sql_constants.specs.declared.ranged.Bound.{Bound}
 use Rattle.hq_sql_scans.specs.Links.{has_cell}
@@ -107,6 +111,26 @@ has_one vs s x are =
     ∙ sym (any_map_of (has_key (0 ∷ []) key) (λ v. v ∷ []) vs)
     ∙ sym (items_with (0 ∷ []) key (one_each vs))
     ∙ ap₂ (λ cs g. has_items (rows_with cs key g)) (sym are.columns) (sym are.rows)
+
+-- a value whose slot no constant has is none of them
+none_slot : (vs : List Val) (x : Val) → list_any (λ u. u == slot_of x) (map slot_of vs) ≡ false → is_one_of vs (cell_of x) ≡ false
+none_slot [] x e = refl
+none_slot (v ∷ vs) x e =
+    let go : (b : Bool) → is_true (equal (cell_of x) (cell_of v)) ≡ b → (b || is_one_of vs (cell_of x)) ≡ false =
+    elim [
+      | true ↦ λ h.
+          let same : x ≡ v = same_value x v (cells_stand Eq (cell_of x) (cell_of v) h) in
+          absurd (false≢true (sym e ∙ ap (λ c. c || list_any (λ u. u == slot_of x) (map slot_of vs)) (ap (λ y. slot_of y == slot_of x) (sym same) ∙ eq-eqb (slot_of x) (slot_of x) refl)))
+      | false ↦ λ h. none_slot vs x (or_right _ _ e)
+    ] in
+    go (is_true (equal (cell_of x) (cell_of v))) refl
+  where
+    or_right : (a b : Bool) → (a || b) ≡ false → b ≡ false
+    or_right true b e = cc
+    or_right false b e = e
+
+pub has_slots : (vs : List Val) (s : Constants) → AreConstants vs s → AreTaken vs s.taken.items → HasSlots s
+has_slots vs s are marks = record { none = λ x out. sym (has_one vs s x are) ∙ none_slot vs x (marks.none x out) }
 
 -- ---- the places, one after the other
 

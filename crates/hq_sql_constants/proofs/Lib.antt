@@ -7,3 +7,4 @@ pub mod Sieving
 pub mod KeyValues
 pub mod Ranges
 pub mod RangeEntries
+pub mod Slots

@@ -32,7 +32,7 @@ is_so true e = refl
 is_so false e = e
 
 -- what meets a comparison stands to its constant as that asks
-cells_stand : (op : Op) (x y : CellTree) → is_true (compared op x y) ≡ true → op_test op (cell_cmp x y) ≡ true
+pub cells_stand : (op : Op) (x y : CellTree) → is_true (compared op x y) ≡ true → op_test op (cell_cmp x y) ≡ true
 cells_stand op x y e =
     let go : (o : Option Ordering) → order_between x y ≡ o → is_true (tested (op_test op) o) ≡ true → op_test op (cell_cmp x y) ≡ true =
     elim [ None ↦ λ is h. cc | Some o ↦ λ is h. ap (op_test op) (cell_cmp_between x y o is) ∙ is_so (op_test op o) h ] in

@@ -35,7 +35,7 @@ pub hold_more : (tests : List (Vec ColumnTest)) (i : ℕ) (t : Vec ColumnTest) (
 hold_more tests i t row lt is =
     at_drop_more (λ l. all_hold l row) tests i t lt ∙ ap (λ u. one_holds u.items row && all_hold (drop (i + 1) tests) row) (sym is)
 
-drop_past : {A : Type 0} (xs : List A) (i : ℕ) → length xs ≤ i → drop i xs ≡ []
+pub drop_past : {A : Type 0} (xs : List A) (i : ℕ) → length xs ≤ i → drop i xs ≡ []
 drop_past [] zero le = refl
 drop_past [] (suc i) le = refl
 drop_past (x ∷ xs) zero le = absurd (omega arith)

@@ -1,9 +1,10 @@
 -- Places without which WHERE keeps what it keeps with them.
-use Rattle.std.specs.Prelude.{◌≡◌, ◌<◌, ℕ, List, [], ◌∷◌, length, map, Bool, false, Option, Some, None, slice_index_or}
+use Rattle.std.specs.Prelude.{◌≡◌, ◌<◌, ◌+◌, ◌*◌, ◌%◌, ◌==◌, ℕ, List, [], ◌∷◌, length, map, Bool, false, Option, Some, None, slice_index_or}
 use Rattle.std.specs.List.{list_any}
 use Rattle.std.specs.Global.{Vec}
 use Rattle.hq_base.specs.Cells.{CellTree, cell_of}
 use Rattle.hq_base.specs.declared.value.Val.{Val}
+use Rattle.hq_base.specs.declared.value.Val.TheVariants as val
 use Rattle.hq_load_index.specs.Grids.{rows_in}
 use Rattle.hq_load_index.specs.Indexes.{IsOver, columns_of, rows_with}
 use Rattle.hq_load_index.specs.Keys.{has_key}
@@ -34,6 +35,25 @@ pub record AreConstants (vs : List Val) (s : Constants) : Type 0 where
 -- whether a cell is one of the constants, as a look-up tells it
 abbrev pub has_constant : Constants → CellTree → Bool
 has_constant s c = has_items (rows_with (columns_of s.index) (c ∷ []) (rows_in s.grid))
+
+-- the slot of a text, as it goes on from that of the bytes before: a hash of 16 bits
+abbrev pub text_slot : ℕ → List ℕ → ℕ
+text_slot h [] = h
+text_slot h (b ∷ bs) = text_slot ((h * 31 + b) % 65536) bs
+
+abbrev pub slot_of : Val → ℕ
+slot_of (val.Text t) = text_slot 0 t
+slot_of val.Null = 0
+slot_of (val.Int n) = 0
+slot_of (val.Bool b) = 0
+
+-- the slots of these values are taken
+pub record AreTaken (vs : List Val) (taken : List Bool) : Type 0 where
+  pub none : (x : Val) → slice_index_or taken (slot_of x) false ≡ false → list_any (λ u. u == slot_of x) (map slot_of vs) ≡ false
+
+-- what has a slot that is not taken is no constant
+pub record HasSlots (s : Constants) : Type 0 where
+  pub none : (x : Val) → slice_index_or s.taken.items (slot_of x) false ≡ false → has_constant s (cell_of x) ≡ false
 
 -- rows that are not marked have none of these values in columns
 pub record MarksAll (rows : List (List Val)) (columns : List ℕ) (vs : List Val) (marks : List Bool) : Type 0 where

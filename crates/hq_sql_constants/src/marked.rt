@@ -1,11 +1,11 @@
 //! The places of the rows that have one of many constants in a column.
-ghost use Rattle.std.specs.Prelude.{◌≡◌, ◌<◌, ◌^◌, ◌++◌, ◌==◌, ℕ, [], ◌∷◌, false, true, filter, length, IfOk, IfSome, OnOk, slice_index_or};
+ghost use Rattle.std.specs.Prelude.{◌≡◌, ◌<◌, ◌^◌, ◌++◌, ◌==◌, ℕ, [], ◌∷◌, false, true, filter, length, map, IfOk, IfSome, OnOk, slice_index_or};
 ghost use Rattle.std.specs.List.{list_any};
 ghost use Rattle.hq_base.specs.Cells.{cell_of};
 ghost use Rattle.hq_load_index.specs.Grids.{rows_in};
 ghost use Rattle.hq_load_index.specs.Indexes.{IsOver, columns_of, rows_with};
 ghost use Rattle.hq_load_index.specs.Keys.{cell_in};
-ghost use Rattle.hq_sql_constants.specs.Sifted.{AreConstants, MarksAll, has_constant};
+ghost use Rattle.hq_sql_constants.specs.Sifted.{AreConstants, AreTaken, HasSlots, MarksAll, has_constant, slot_of, text_slot};
 ghost use Rattle.hq_sql_scans.specs.Positions.{positions_of};
 
 use hq_base::{Memory, Val};
@@ -16,11 +16,66 @@ use hq_sql_scans::positions::{Positions, number_of, position_at};
 use std::alloc::Global;
 use std::slice;
 
-/// Constants, each a row of a grid, with an index over them.
+/// Constants, each a row of a grid, with an index over them, and of each slot whether a constant has it.
 #[derive(Drop)]
 pub(crate) struct Constants {
     grid: Grid,
     index: Index,
+    taken: Vec<bool>,
+}
+
+// There are so many slots.
+const SLOTS: usize = 65536;
+
+// The slot of a text: a sum of its bytes, each weighed by its place.
+#[tactic(auto, using(crate::proofs::Slots::slot_more, crate::proofs::Slots::slot_end))]
+fn text_slot(bytes: &[u8]) -> u32
+    ensures { result ≡ text_slot 0 bytes.now }
+{
+    let mut slot = 0u32;
+    for byte in bytes {
+        slot = (slot * 31 + *byte as u32) % 65536;
+    }
+    slot
+}
+
+// The slot of a value. Only texts are long enough for it to be worth while.
+fn slot_of(value: &Val) -> u32
+    ensures { result ≡ slot_of value.now }
+{
+    match value {
+        Val::Text(text) => text_slot(text.as_bytes()),
+        Val::Null | Val::Int(_) | Val::Bool(_) => 0,
+    }
+}
+
+#[tactic(auto, using(crate::proofs::Slots::slots_more))]
+fn slots_of(alloc: Global, values: &[Val]) -> Result<Vec<u32>, Memory>
+    ensures { IfOk result (λ slots. slots.items ≡ map slot_of values.now) }
+{
+    let mut slots = Vec::with_capacity(alloc, values.len())?;
+    for value in values {
+        slots.push(slot_of(value))?;
+    }
+    Ok(slots)
+}
+
+/// Of so many numbers, whether each is one of these.
+pub(crate) fn marks_of(alloc: Global, count: usize, found: &[u32]) -> Result<Vec<bool>, Memory>
+    ensures { IfOk result (λ marks. (t : ℕ) → t < count → slice_index_or marks.items t false ≡ list_any (λ u. u == t) found.now) }
+{
+    let mut marks = Vec::from_elem(alloc, false, count)?;
+    mark_rows(&mut marks, found);
+    Ok(marks)
+}
+
+// Of each slot, whether one of these values has it.
+#[tactic(auto, using(crate::proofs::Slots::taken_are))]
+fn taken_by(alloc: Global, values: &[Val]) -> Result<Vec<bool>, Memory>
+    ensures { IfOk result (λ taken. AreTaken values.now taken.items) }
+{
+    let slots = slots_of(alloc, values)?;
+    marks_of(alloc, SLOTS, slots.as_slice())
 }
 
 fn first_column(alloc: Global) -> Result<Vec<ColId>, Memory>
@@ -34,17 +89,19 @@ fn first_column(alloc: Global) -> Result<Vec<ColId>, Memory>
 /// These values as constants.
 pub(crate) fn constants_of(alloc: Global, values: Vec<Val>) -> Result<Constants, Memory>
     requires { length values.items < 2 ^ 31 }
-    ensures { IfOk result (AreConstants values.items) }
+    ensures are { IfOk result (AreConstants values.items) }
+    ensures slots { IfOk result HasSlots }
 {
     let count = values.len();
+    let taken = taken_by(alloc, values.as_slice())?;
     let grid = Grid::of(1, count, values);
     let columns = first_column(alloc)?;
     let index = Index::build(alloc, &grid, columns)?;
-    Ok(Constants { grid, index })
+    Ok(Constants { grid, index, taken })
 }
 
-// Whether a value is one of the constants.
-fn has(constants: &Constants, value: &Val) -> bool
+// Whether a value is one of the constants, looked up.
+fn is_found(constants: &Constants, value: &Val) -> bool
     requires { IsOver (rows_in constants.now.grid) constants.now.index }
     ensures { result ≡ has_constant constants.now (cell_of value.now) }
 {
@@ -55,9 +112,22 @@ fn has(constants: &Constants, value: &Val) -> bool
     !found.rows.is_empty()
 }
 
+// Whether a value is one of the constants. Most that are not have a slot that none of them has.
+fn has(constants: &Constants, value: &Val) -> bool
+    requires over { IsOver (rows_in constants.now.grid) constants.now.index }
+    requires slots { HasSlots constants.now }
+    ensures { result ≡ has_constant constants.now (cell_of value.now) }
+{
+    if !is_marked(constants.taken.as_slice(), slot_of(value) as usize) {
+        return false;
+    }
+    is_found(constants, value)
+}
+
 // Whether a row has one of the constants in a column.
 fn row_has(constants: &Constants, row: &[Val], column: ColId) -> bool
-    requires { IsOver (rows_in constants.now.grid) constants.now.index }
+    requires over { IsOver (rows_in constants.now.grid) constants.now.index }
+    requires slots { HasSlots constants.now }
     ensures { result ≡ has_constant constants.now (cell_in row.now column) }
 {
     match row.get(column.at()) {
@@ -84,7 +154,8 @@ fn add_place(
     constants: &Constants,
     places: &mut Vec<u32>,
 ) -> Result<(), Memory>
-    requires { IsOver (rows_in constants.now.grid) constants.now.index }
+    requires over { IsOver (rows_in constants.now.grid) constants.now.index }
+    requires slots { HasSlots constants.now }
     ensures { OnOk result (places.new.items ≡ places.old.items ++ filter (λ p. has_constant constants.now (cell_in (slice_index_or rows.now p []) column)) (position ∷ [])) }
 {
     if row_has(constants, rows.row(position), column) {
@@ -102,7 +173,8 @@ pub(crate) fn places_with(
     column: ColId,
     constants: &Constants,
 ) -> Result<Vec<u32>, Memory>
-    requires { IsOver (rows_in constants.now.grid) constants.now.index }
+    requires over { IsOver (rows_in constants.now.grid) constants.now.index }
+    requires slots { HasSlots constants.now }
     ensures { IfOk result (λ places. places.items ≡ filter (λ p. has_constant constants.now (cell_in (slice_index_or rows.now p []) column)) (positions_of positions.entry)) }
 {
     let mut places = Vec::new(alloc);

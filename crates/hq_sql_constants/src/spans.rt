@@ -1,13 +1,12 @@
 //! The entries of an index over one column whose rows meet comparisons of it with constants.
-ghost use Rattle.std.specs.Prelude.{◌≡◌, ◌∷◌, ◌<◌, ◌≤◌, ◌==◌, ℕ, [], false, true, filter, length, take, drop, ◌-◌, IfOk, OnOk, slice_index_or};
-ghost use Rattle.std.specs.List.{list_any};
+ghost use Rattle.std.specs.Prelude.{◌≡◌, ◌∷◌, ◌<◌, ◌≤◌, ℕ, [], true, length, IfOk, OnOk};
 ghost use Rattle.std.specs.Ordering.{nat_cmp};
 ghost use Rattle.hq_base.specs.Lists.{sort};
 ghost use Rattle.hq_load_index.specs.Indexes.{IsOver, columns_of, counted, entries_of};
 ghost use Rattle.hq_sql_constants.specs.Ranged.{HaveSame, IsIn, Narrows, StandsBetween};
 ghost use Rattle.hq_sql_scans.specs.Positions.{positions_of};
 
-use crate::marked::{mark_rows, places_marked};
+use crate::marked::{marks_of, places_marked};
 use crate::ranged::Bound;
 use hq_base::Memory;
 use hq_load_index::Index;
@@ -103,15 +102,6 @@ pub(crate) fn span_of(rows: &Rows, index: &Index, column: ColId, bounds: &[Bound
     span
 }
 
-// Of each row of a table, whether it is one of these.
-fn marks_of(alloc: Global, rows: &Rows, found: &[u32]) -> Result<Vec<bool>, Memory>
-    ensures { IfOk result (λ marks. (t : ℕ) → t < length rows.now → slice_index_or marks.items t false ≡ list_any (λ u. u == t) found.now) }
-{
-    let mut marks = Vec::from_elem(alloc, false, rows.len())?;
-    mark_rows(&mut marks, found);
-    Ok(marks)
-}
-
 fn sort_places(places: &mut Vec<u32>) -> Result<(), Memory>
     ensures { OnOk result (places.new.items ≡ sort nat_cmp places.old.items) }
 {
@@ -162,6 +152,6 @@ pub(crate) fn places_between(
     if are_few_of_all(rows, positions, found) {
         return in_file_order(alloc, found);
     }
-    let marks = marks_of(alloc, rows, found)?;
+    let marks = marks_of(alloc, rows.len(), found)?;
     places_marked(alloc, positions, marks.as_slice())
 }

@@ -25,4 +25,4 @@ returns c =
     c.in_ok-places.ensures ∙ ap (λ at. filter (λ k. has_constant s (cell_in (get_or rows k []) at)) ps) c.new.ensures in
     sifted_at (world_of c.args.world.now) columns rows (rows_lent stored.rows) (joins_of (map join_view c.args.joins.now)) c.args.alias.now name
     (pred_view c.args.pred.now) c.args.asked.values.items c.in-Some.at s ps c.in_ok-places.places.items
-    c.requires.rows c.requires.asks first c.in_ok-constants.ensures c.requires.joined chosen
+    c.requires.rows c.requires.asks first c.in_ok-constants.ensures.are c.requires.joined chosen

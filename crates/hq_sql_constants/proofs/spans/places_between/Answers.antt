@@ -1,4 +1,4 @@
-use Rattle.std.proofs.Common.{◌≡◌, ◌<◌, ◌∙◌, ◌-◌, ℕ, false, drop, filter, get_or, length, take, ap}
+use Rattle.std.proofs.Common.{◌≡◌, ◌<◌, ◌∙◌, ◌-◌, ℕ, false, drop, filter, get_or, length, take, ap, arith}
 use Rattle.std.specs.Prelude.{◌==◌}
 use Rattle.std.specs.List.{list_any}
 use Rattle.std.specs.Ordering.{nat_cmp}
@@ -28,7 +28,7 @@ returns c =
     let marks = c.in_ok-marks.marks.items in
     let ps = positions_of c.args.positions in
     let set : (t : ℕ) → t < length rows → get_or marks t false ≡ list_any (λ u. u == t) (take (s.to - s.from) (drop s.from entries)) =
-    λ t lt. c.in_ok-marks.ensures t lt ∙ ap (list_any (λ u. u == t)) c.between-found.ensures in
+    λ t lt. c.in_ok-marks.ensures t (omega (arith, lt, c.len.ensures.rows)) ∙ ap (list_any (λ u. u == t)) c.between-found.ensures in
     IfOk-weaker c.places_marked.result _ _
     (λ places chosen. marked_same c.args.column rows entries (columns_of c.args.index.now) c.args.bounds.now s marks ps places.items
     c.requires.some c.requires.columns c.requires.over.entries c.requires.between set
