@@ -76,7 +76,7 @@ write_each-returns-in-Some t c =
     let n = names_of c.args.scope.now c.args.world.now in
     let e = expr_view c.args.expr.now in
     let plain = c.in-Some.plain in
-    let is : IsPlain e c.args.placed.now plain = subst (λ o. IfSome o (IsPlain e c.args.placed.now)) c.in-Some.is c.in_ok-plain_rows.ensures in
+    let is : IsPlain e c.args.placed.now plain = subst (λ o. IfSome o (IsPlain e c.args.placed.now)) c.in-Some.is c.in_ok-plain.ensures in
     subst (λ ts. OnOk c.write_plain.result (c.write_plain.new.out ≡ c.args.out.now ++ more_texts c.args.begun ts))
     (plain_texts e c.args.placed.now plain w n c.args.places.now is) c.write_plain.ensures
 
