@@ -14,7 +14,7 @@ for f in fs:
     # what a file exports again is used
     def used(name):
         own=name.split(' as ')[-1].strip()
-        if own=='[]': return True
+        if own in ('[]','◌>>=◌'): return True
         if '◌' in own: return all(p in code for p in own.split('◌') if p)
         return re.search(r"(?<![^\s(){}\[\];,.`|\"↦=])"+re.escape(own)+r"(?![^\s(){}\[\];,.`|\"↦=:])",code) is not None or (f.endswith('.rt') and re.search(r'\b'+re.escape(own)+r'\b',code))
     n=0

@@ -1,3 +1,0 @@
-mod Members
-mod Commas
-pub mod Texts

@@ -1,3 +1,0 @@
-pub mod Outside
-pub mod Runs
-pub mod Laws

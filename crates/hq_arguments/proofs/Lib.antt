@@ -1,4 +1,0 @@
-mod Different
-mod Distinct
-mod Objects
-mod Named

@@ -1,3 +1,0 @@
-pub mod Walks
-pub mod Ends
-pub mod Steps

@@ -1,4 +1,0 @@
-use Rattle.hq_ask.proofs.summaries.taken_below.Goals as goal
-
-pub returns : goal.returns
-returns c = c.ask_all_taken.ensures

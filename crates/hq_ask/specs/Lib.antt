@@ -1,9 +1,0 @@
-pub mod Known
-pub mod Looks
-pub mod Summaries
-pub mod Heads
-pub mod Asked
-pub mod Parts
-pub mod Seen
-pub mod HeadSeen
-pub mod Due

@@ -1,8 +1,0 @@
--- What a field of a schema with its coerced arguments is seen as, and the parts of a collected field.
-use Rattle.hq_arguments.specs.FieldArguments.{field_args_view}
-use Rattle.hq_ask.specs.Known.{Known}
-use Rattle.hq_ask.specs.declared.known.Known.{Known as RustKnown}
-use Rattle.hq_schema.specs.Schema.{field_view}
-
-abbrev pub known_view : RustKnown → Known
-known_view k = (field_view k.def.now, field_args_view k.args.value)

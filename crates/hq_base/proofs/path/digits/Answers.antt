@@ -1,7 +1,0 @@
-use Rattle.std.proofs.Common.{◌∙◌, ap}
-use Rattle.hq_base.specs.Text.{has_zero}
-use Rattle.hq_base.proofs.Texts.{has_zero-decimal}
-use Rattle.hq_base.proofs.path.digits.Goals as goal
-
-pub returns-clause-clean : goal.returns-clause-clean
-returns-clause-clean c = ap has_zero c.in_ok-format.ensures.ok ∙ has_zero-decimal c.args.number c.ranges.number.fits

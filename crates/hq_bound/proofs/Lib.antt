@@ -1,4 +1,0 @@
-pub mod Joined
-pub mod Views
-pub mod Sessions
-pub mod Masks

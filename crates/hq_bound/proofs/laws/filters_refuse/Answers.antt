@@ -1,5 +1,0 @@
-use Rattle.hq_bound.proofs.Sessions.{filter_refuses}
-use Rattle.hq_bound.proofs.laws.filters_refuse.Goals as goal
-
-pub returns : goal.returns
-returns c role m s vars t = filter_refuses role m s vars t (c.masks_add_no_fault.ensures.binds role m s vars t)

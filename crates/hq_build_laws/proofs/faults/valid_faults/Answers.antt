@@ -1,5 +1,0 @@
-use Rattle.hq_build_laws.proofs.Requests.{valid_faults}
-use Rattle.hq_build_laws.proofs.faults.valid_faults.Goals as goal
-
-pub returns : goal.returns
-returns c tables meta session body fault = valid_faults tables meta session body (c.valid_builds.ensures tables meta session) c.parsed_is_due.ensures fault

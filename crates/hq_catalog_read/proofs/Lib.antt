@@ -1,9 +1,0 @@
-mod CatalogLemmas
-mod EachLemmas
-mod KeyLemmas
-mod LimitLemmas
-mod PairLemmas
-mod ListLemmas
-mod RepeatLemmas
-mod ResolveLemmas
-mod TableLemmas

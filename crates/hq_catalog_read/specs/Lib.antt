@@ -1,9 +1,0 @@
-pub mod Field
-pub mod Each
-pub mod Passed
-pub mod Node
-pub mod Shape
-pub mod Limits
-pub mod Repeats
-pub mod Resolved
-pub mod Reading

@@ -1,5 +1,0 @@
-mod Lists
-mod Operations
-mod NoNames
-mod Steps
-mod ValueSteps

@@ -1,6 +1,0 @@
-use Rattle.std.proofs.Common.{ap, sym, nat_le}
-use Rattle.hq_collect.proofs.Trees.{many_keys}
-use Rattle.hq_collect.proofs.keys.are_few.Goals as goal
-
-pub returns : goal.returns
-returns c = ap (λ n. nat_le n 50) (sym (many_keys c.args.fields.now))

@@ -1,5 +1,0 @@
-use Rattle.hq_collect.proofs.Enough.{levels_suffice}
-use Rattle.hq_collect.proofs.laws.levels_suffice.Goals as goal
-
-pub returns : goal.returns
-returns c = levels_suffice

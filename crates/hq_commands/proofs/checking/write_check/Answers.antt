@@ -1,9 +1,0 @@
-use Rattle.std.proofs.Common.{◌≤◌, List, length, sym, subst}
-use Rattle.hq_terms.specs.Database.{Row}
-use Rattle.hq_loading.proofs.Catalogs.{few_tables}
-use Rattle.hq_commands.proofs.checking.write_check.Goals as goal
-
-pub count_rows-rows-requires : goal.count_rows-rows-requires
-count_rows-rows-requires g c =
-    let loaded = c.args.loaded.now in
-    subst (λ (d : List (List Row)). length d ≤ 500) (sym c.as_slice.ensures) (few_tables loaded.catalog.tables loaded.rows loaded.catalog.valid loaded.database)

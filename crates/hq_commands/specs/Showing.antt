@@ -1,9 +1,0 @@
--- What `hq help` and `hq --version` write: a page, whole.
-use Rattle.std.specs.Prelude.{Some}
-use Rattle.hq_words.specs.Pages.{page_text}
-use Rattle.hq_words.specs.declared.page.Page.{Page}
-use Rattle.hq_commands.specs.Ending.{Output}
-use Rattle.hq_commands.specs.declared.done.Done.TheVariants.{Answered}
-
-abbrev pub page_output : Page → Output
-page_output page = record { done = Answered; bytes = Some (page_text page) }

@@ -1,2 +1,0 @@
-pub mod SortLists
-mod Steps

@@ -1,9 +1,0 @@
-use Rattle.std.proofs.Common.{◌≡◌, ◌++◌, drop, map}
-use Rattle.hq_sql_tree.specs.View.{out_view}
-use Rattle.hq_compiled.specs.Aggregates.{needed_columns}
-use Rattle.hq_compile_tables.specs.Shown.{look_of}
-use Rattle.hq_compile_summaries.proofs.summary.needed_columns.Given as goal
-
-abbrev pub invariant-loop-i : goal.invariant-loop-i
-invariant-loop-i l =
-    map out_view l.outs.items ++ needed_columns (look_of l.shown) (drop l.i l.needed) l.i ≡ needed_columns (look_of l.shown) l.needed 0

@@ -1,2 +1,0 @@
-pub mod Selects
-pub mod Shown

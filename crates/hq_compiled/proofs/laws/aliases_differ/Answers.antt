@@ -1,5 +1,0 @@
-use Rattle.hq_compiled.proofs.Aliases.{aliases_differ}
-use Rattle.hq_compiled.proofs.laws.aliases_differ.Goals as goal
-
-pub returns : goal.returns
-returns c = aliases_differ

@@ -1,9 +1,0 @@
-use Rattle.hq_loading.specs.Loading.{description_view}
-use Rattle.hq_confine_command.proofs.Ended.{over_folder}
-use Rattle.hq_confine_command.proofs.confining.confine.Goals as goal
-
-pub returns-clause-told : goal.returns-clause-told
-returns-clause-told g c =
-    over_folder (g.F.Files.folder c.args.files.now) c.args.dir.now c.args.headers.now (description_view c.in_ok-description.description) c.in_ok-session.session
-    (g.S.Source.left c.args.input.now) (g.K.Sink.written c.args.out.now)
-    (g.K.Sink.written c.confine_to.new.out) c.confine_to.result c.in_ok-session.ensures c.in_ok-description.ensures.told c.confine_to.ensures.told

@@ -1,5 +1,0 @@
-use Rattle.hq_confine_command.proofs.Own.{own_confined}
-use Rattle.hq_confine_command.proofs.laws.own_statements_are_confined.Goals as goal
-
-pub returns : goal.returns
-returns c dir headers files text = own_confined dir headers files text

@@ -1,3 +1,0 @@
-pub mod Confining
-pub mod Said
-pub mod Laws

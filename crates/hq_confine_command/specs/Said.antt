@@ -1,7 +1,0 @@
--- A line as what is to be written.
-use Rattle.std.specs.Prelude.{Some}
-use Rattle.hq_commands.specs.Ending.{Output}
-use Rattle.hq_confine_command.specs.declared.judging.Said.{Said}
-
-abbrev pub said_view : Said → Output
-said_view said = record { done = said.done; bytes = Some said.line }

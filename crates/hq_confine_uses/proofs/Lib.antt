@@ -1,6 +1,0 @@
-pub mod Worst
-pub mod Walks
-pub mod Keys
-pub mod Sorts
-pub mod Stacked
-pub mod Places

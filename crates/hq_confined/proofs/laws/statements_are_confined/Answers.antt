@@ -1,5 +1,0 @@
-use Rattle.hq_confined.proofs.Fields.{statement_confined}
-use Rattle.hq_confined.proofs.laws.statements_are_confined.Goals as goal
-
-pub returns : goal.returns
-returns c = λ fields schema grants allowed bound. statement_confined schema grants fields allowed bound

@@ -1,6 +1,0 @@
-mod Same
-mod Using
-mod Places
-mod Masked
-mod Granted
-mod Asks

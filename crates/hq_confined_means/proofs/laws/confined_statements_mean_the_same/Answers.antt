@@ -1,5 +1,0 @@
-use Rattle.hq_confined_means.proofs.Theorem.{means_the_same}
-use Rattle.hq_confined_means.proofs.laws.confined_statements_mean_the_same.Goals as goal
-
-pub returns : goal.returns
-returns c = λ tables meta g d e statement. means_the_same tables meta g d e statement

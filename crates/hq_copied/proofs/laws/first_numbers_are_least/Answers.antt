@@ -1,5 +1,0 @@
-use Rattle.hq_copied.proofs.Numbers.{first_from_is}
-use Rattle.hq_copied.proofs.laws.first_numbers_are_least.Goals as goal
-
-pub returns : goal.returns
-returns c = first_from_is

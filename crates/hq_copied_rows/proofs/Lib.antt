@@ -1,3 +1,0 @@
-mod Values
-mod Rows
-mod Answers

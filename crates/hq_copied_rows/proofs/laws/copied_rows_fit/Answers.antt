@@ -1,5 +1,0 @@
-use Rattle.hq_copied_rows.proofs.Answers.{rows_fit}
-use Rattle.hq_copied_rows.proofs.laws.copied_rows_fit.Goals as goal
-
-pub returns : goal.returns
-returns c = rows_fit

@@ -1,9 +1,0 @@
-pub mod Viewed
-pub mod Granted
-pub mod Refused
-pub mod Cells
-pub mod Numbers
-pub mod Order
-pub mod Copy
-mod Answers
-mod Worked

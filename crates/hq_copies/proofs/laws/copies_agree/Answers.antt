@@ -1,6 +1,0 @@
-use Rattle.std.proofs.Common.{ap}
-use Rattle.hq_copied.specs.Copied.{copied}
-use Rattle.hq_copies.proofs.laws.copies_agree.Goals as goal
-
-pub returns : goal.returns
-returns c tables m session d e agree = ap (copied tables m session) agree

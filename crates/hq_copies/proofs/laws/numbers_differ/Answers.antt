@@ -1,5 +1,0 @@
-use Rattle.hq_copies.proofs.Numbers.{one_to_one}
-use Rattle.hq_copies.proofs.laws.numbers_differ.Goals as goal
-
-pub returns : goal.returns
-returns c = one_to_one

@@ -1,3 +1,0 @@
-mod Formed
-mod TextsAsked
-mod Worlds

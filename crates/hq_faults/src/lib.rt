@@ -1,8 +1,0 @@
-//! The faults of a request, and how each is told.
-#![tactic(auto)]
-
-mod fault_text;
-mod faults;
-
-pub use fault_text::fault_json;
-pub use faults::{BodyFault, RequestFault, fault_at};

@@ -1,8 +1,0 @@
-use Rattle.std.proofs.Common.{◌≡◌, map, drop}
-use Rattle.hq_base.specs.Json.{member_view}
-use Rattle.hq_filter_read.specs.Asked.{parts_due}
-use Rattle.hq_filter_read.proofs.asked.check_parts.Given as goal
-
--- what is left decides
-abbrev pub invariant-loop-member : goal.invariant-loop-member
-invariant-loop-member l = parts_due l.path (map member_view (drop l.member-index l.members)) ≡ parts_due l.path (map member_view l.members)

@@ -1,6 +1,0 @@
-pub mod Words
-pub mod Tables
-pub mod Metadata
-pub mod Rows
-pub mod Requests
-pub mod Lines

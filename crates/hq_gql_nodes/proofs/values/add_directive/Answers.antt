@@ -1,9 +1,0 @@
-use Rattle.std.proofs.Common.{map, rules}
-use Rattle.hq_gql_nodes.specs.Nodes.{node_view}
-use Rattle.hq_gql_nodes.proofs.Nodes.{node_added, nodes_then}
-use Rattle.hq_gql_nodes.proofs.values.add_directive.Goals as goal
-
-pub returns : goal.returns
-returns c =
-    let old = c.args.nodes.now.items in
-    nodes_then c.add_arguments.result (map node_view old) (map node_view c.push.new.self.items) _ _ _ _ (node_added node_view old _ _ c.in_ok-push.ensures.items) (search rules) c.add_arguments.ensures

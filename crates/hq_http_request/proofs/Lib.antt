@@ -1,4 +1,0 @@
-pub mod Numbers
-pub mod Heads
-pub mod Text
-pub mod HeadDecisions

@@ -1,4 +1,0 @@
-pub mod Requests
-pub mod Holds
-pub mod Reads
-pub mod Laws

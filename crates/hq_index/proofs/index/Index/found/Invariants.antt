@@ -1,4 +1,0 @@
-use Rattle.hq_index.proofs.index.Index.found.Given as goal
-
-abbrev pub ghosts-look : goal.ghosts-look
-ghosts-look a = record { name = a.blank.name; parts = a.blank.parts }

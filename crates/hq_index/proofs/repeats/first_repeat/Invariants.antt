@@ -1,7 +1,0 @@
-use Rattle.hq_index.specs.Grids.{rows_in}
-use Rattle.hq_index.specs.Repeats.{same_key}
-use Rattle.hq_index.proofs.Neighbours.{LeastPair}
-use Rattle.hq_index.proofs.repeats.first_repeat.Given as goal
-
-abbrev pub invariant-loop-at : goal.invariant-loop-at
-invariant-loop-at l = LeastPair (same_key l.columns (rows_in l.grid)) l.sorted l.at l.found

@@ -1,4 +1,0 @@
-mod Selected
-mod ByName
-mod Worked
-mod Loops

@@ -1,9 +1,0 @@
-pub mod FieldNames
-pub mod TypeKinds
-pub mod Directives
-pub mod Nodes
-pub mod Types
-pub mod Members
-pub mod Selections
-pub mod Answers
-pub mod Views

@@ -1,3 +1,0 @@
-mod WrittenParts
-pub mod Catalogs
-mod EachDue

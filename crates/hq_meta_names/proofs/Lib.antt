@@ -1,4 +1,0 @@
-mod Results
-mod Differ
-mod Grown
-mod Columns

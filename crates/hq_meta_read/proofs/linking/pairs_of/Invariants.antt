@@ -1,8 +1,0 @@
-use Rattle.std.proofs.Common.{◌≡◌, take}
-use Rattle.hq_meta_read.specs.Linked.{pairs_of}
-use Rattle.hq_meta_read.proofs.linking.pairs_of.Given as goal
-
--- the pairs so far
-abbrev pub invariant-loop-place : goal.invariant-loop-place
-invariant-loop-place l =
-    l.pairs ≡ pairs_of (take l.place l.own) l.remote

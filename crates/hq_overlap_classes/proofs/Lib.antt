@@ -1,4 +1,0 @@
-mod ReachLemmas
-mod Counting
-pub mod Joining
-pub mod Sifting

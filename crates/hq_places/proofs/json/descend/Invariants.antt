@@ -1,8 +1,0 @@
-use Rattle.std.proofs.Common.{◌≡◌, ◌-◌, length}
-use Rattle.hq_places.specs.NodeViews.{node_view}
-use Rattle.hq_places.specs.Nodes.{node}
-use Rattle.hq_places.proofs.json.descend.Given as goal
-
--- as many steps as are left lead from here to where all lead
-abbrev pub invariant-steps : goal.invariant-steps
-invariant-steps l = node (length l.path - l.done) (node_view l.here) ≡ node (length l.path) (l.text, l.path)

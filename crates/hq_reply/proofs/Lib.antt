@@ -1,4 +1,0 @@
-mod Resolved
-mod Roots
-mod Texts
-mod Told

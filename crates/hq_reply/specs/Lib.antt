@@ -1,4 +1,0 @@
-pub mod DataTexts
-pub mod RootObject
-pub mod RootTexts
-pub mod TableObject

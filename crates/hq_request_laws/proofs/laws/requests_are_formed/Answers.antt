@@ -1,9 +1,0 @@
-use Rattle.hq_role_schema.specs.RoleSchema.{role_schema}
-use Rattle.hq_terms.specs.Permission.{role_of}
-use Rattle.hq_request_laws.proofs.MadeFormed.{made_formed}
-use Rattle.hq_request_laws.proofs.laws.requests_are_formed.Goals as goal
-
-pub returns : goal.returns
-returns c tables meta session body ask =
-    made_formed tables meta session body ask (c.requests_are_made.ensures (role_schema tables meta (role_of session.role)) tables meta session body ask) c.parsed_is_due.ensures
-    (λ document op vars. c.requests_are_built.ensures tables meta session document op vars)

@@ -1,3 +1,0 @@
-pub mod ObjectsNest
-pub mod Built
-pub mod Formed

@@ -1,5 +1,0 @@
-use Rattle.std.proofs.Common.{◌≡◌, map, take}
-use Rattle.hq_role_schema.proofs.inputs.columns_of.Given as goal
-
-abbrev pub invariant-loop-column : goal.invariant-loop-column
-invariant-loop-column l = l.cols ≡ map (λ c. c.col) (take l.column-index l.column-items)

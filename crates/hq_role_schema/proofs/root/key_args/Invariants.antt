@@ -1,7 +1,0 @@
-use Rattle.std.proofs.Common.{◌≡◌, map, take}
-use Rattle.hq_schema.specs.Schema.{arg_view}
-use Rattle.hq_role_schema.specs.Root.{key_arg}
-use Rattle.hq_role_schema.proofs.root.key_args.Given as goal
-
-abbrev pub invariant-loop-column : goal.invariant-loop-column
-invariant-loop-column l = map arg_view l.args.items ≡ map key_arg (take l.column-index l.column-items)

@@ -1,7 +1,0 @@
-use Rattle.std.proofs.Common.{◌≡◌, map, take}
-use Rattle.hq_schema.specs.Schema.{arg_view}
-use Rattle.hq_role_schema.specs.Rows.{row_arg}
-use Rattle.hq_role_schema.proofs.rows.row_args.Given as goal
-
-abbrev pub invariant-loop-row : goal.invariant-loop-row
-invariant-loop-row l = map arg_view l.args.items ≡ map row_arg (take l.row-index l.rows)

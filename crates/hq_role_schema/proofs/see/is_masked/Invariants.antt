@@ -1,7 +1,0 @@
-use Rattle.std.proofs.Common.{◌≡◌, drop, map}
-use Rattle.hq_terms.specs.PermView.{mask_view}
-use Rattle.hq_role_schema.specs.Shown.{is_masked}
-use Rattle.hq_role_schema.proofs.see.is_masked.Given as goal
-
-abbrev pub invariant-loop-mask : goal.invariant-loop-mask
-invariant-loop-mask l = is_masked (map mask_view (drop l.mask-index l.masks)) l.col ≡ is_masked (map mask_view l.masks) l.col

@@ -1,5 +1,0 @@
-use Rattle.hq_roles.proofs.Fitting.{schema_fits}
-use Rattle.hq_roles.proofs.laws.leads_where_permitted.Goals as goal
-
-pub returns : goal.returns
-returns c = schema_fits

@@ -1,4 +1,0 @@
-pub mod Access
-pub mod Leads
-pub mod Differ
-pub mod Roles

@@ -1,2 +1,0 @@
-pub mod RootKeys
-pub mod Appended

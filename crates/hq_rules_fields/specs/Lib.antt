@@ -1,3 +1,0 @@
-pub mod Literals
-pub mod NodeRules
-pub mod First

@@ -1,4 +1,0 @@
-pub mod Heads
-pub mod Groups
-pub mod Exploring
-pub mod Walk

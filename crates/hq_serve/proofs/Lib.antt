@@ -1,3 +1,0 @@
-pub mod Links
-pub mod LineLemmas
-pub mod Runs

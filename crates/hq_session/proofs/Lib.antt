@@ -1,4 +1,0 @@
-mod Ends
-mod Tokens
-mod Passed
-mod Added

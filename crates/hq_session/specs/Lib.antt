@@ -1,4 +1,0 @@
-pub mod Fields
-pub mod Sessions
-pub mod Hook
-pub mod Secret

@@ -1,7 +1,0 @@
-pub mod Truths
-pub mod KeyOrders
-pub mod Groups
-pub mod Fresh
-pub mod SeenGroups
-pub mod BestOnes
-pub mod Sums

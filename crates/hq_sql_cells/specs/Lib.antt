@@ -1,5 +1,0 @@
-pub mod View
-pub mod Keys
-pub mod Seen
-pub mod Best
-pub mod Totals

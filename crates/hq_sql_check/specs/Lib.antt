@@ -1,4 +1,0 @@
-pub mod Scopes
-pub mod Fronts
-pub mod Scans
-pub mod Agree

@@ -1,6 +1,0 @@
-mod GrantedRights
-mod Joins
-mod Requests
-mod RootFields
-mod SortCounts
-mod Views

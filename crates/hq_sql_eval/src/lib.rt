@@ -1,8 +1,0 @@
-//! The evaluation of a statement over the tables that are pinned: the answer that it means.
-#![tactic(auto)]
-
-mod learn;
-mod remember;
-mod statement;
-
-pub use statement::eval;

@@ -1,7 +1,0 @@
-use Rattle.hq_index.specs.Indexes.{IsOver}
-use Rattle.hq_sql_rows.proofs.Loops.{each_more}
-use Rattle.hq_sql_rows.proofs.stored.indexes_over.Goals as goal
-
-pub loop-columns-preserved : goal.loop-columns-preserved
-loop-columns-preserved c =
-    each_more (IsOver c.args.rows.now) c.loop-columns.indexes.items c.push.new.self.items _ c.in_ok-push.ensures.items c.in_ok-index_over.ensures c.loop-columns.invariant

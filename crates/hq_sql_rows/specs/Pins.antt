@@ -1,9 +1,0 @@
--- Tables with the rows that are lent.
-use Rattle.std.specs.Prelude.{List, map}
-use Rattle.hq_sql_tree.specs.Meaning.{World}
-use Rattle.hq_sql_rows.specs.Lent.{rows_lent}
-use Rattle.hq_sql_rows.specs.declared.stored.Stored.{Stored}
-
--- tables with their rows
-abbrev pub world_in : List Stored → World
-world_in stored = record { tables = map (λ s. s.table.now) stored; database = map (λ s. rows_lent s.rows) stored }

@@ -1,5 +1,0 @@
-pub mod Outputs
-pub mod Sorted
-pub mod Objects
-pub mod Pieces
-pub mod Groups

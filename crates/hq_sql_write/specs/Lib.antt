@@ -1,5 +1,0 @@
-pub mod Grouped
-pub mod Placed
-pub mod Selected
-pub mod Texts
-pub mod Listed

@@ -1,6 +1,0 @@
-use Rattle.std.proofs.Common.{◌≡◌, map, take}
-use Rattle.hq_terms.specs.Bexp.{bexp_view}
-use Rattle.hq_terms.proofs.copy.bexp.+copy_bexp.Given as goal
-
-abbrev pub invariant-copy_bexps-loop-bexp : goal.invariant-copy_bexps-loop-bexp
-invariant-copy_bexps-loop-bexp l = map bexp_view l.copy.items ≡ map bexp_view (take l.bexp-index l.bexp-items)

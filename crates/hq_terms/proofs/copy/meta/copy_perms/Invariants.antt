@@ -1,6 +1,0 @@
-use Rattle.std.proofs.Common.{◌≡◌, map, take}
-use Rattle.hq_terms.specs.Meta.{perm_view}
-use Rattle.hq_terms.proofs.copy.meta.copy_perms.Given as goal
-
-abbrev pub invariant-loop-perm : goal.invariant-loop-perm
-invariant-loop-perm l = map perm_view l.copy ≡ map perm_view (take l.perm-index l.perm-items)

@@ -1,9 +1,0 @@
-use Rattle.std.proofs.Common.{◌≡◌, ◌++◌, drop, map}
-use Rattle.hq_terms.specs.Bexp.{bexp_view}
-use Rattle.hq_terms.specs.Permission.{filters_for}
-use Rattle.hq_terms.specs.PermView.{permission_view}
-use Rattle.hq_terms.proofs.inherited.filters_for.Given as goal
-
-abbrev pub invariant-loop-view : goal.invariant-loop-view
-invariant-loop-view l =
-    map bexp_view l.filters.items ++ filters_for l.col (map permission_view (drop l.view-index l.views)) ≡ filters_for l.col (map permission_view l.views)

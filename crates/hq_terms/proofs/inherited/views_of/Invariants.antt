@@ -1,9 +1,0 @@
-use Rattle.std.proofs.Common.{◌≡◌, ◌++◌, drop, map}
-use Rattle.hq_terms.specs.Meta.{tracked_view}
-use Rattle.hq_terms.specs.Permission.{permissions_of}
-use Rattle.hq_terms.specs.PermView.{permission_view}
-use Rattle.hq_terms.proofs.inherited.views_of.Given as goal
-
-abbrev pub invariant-loop-name : goal.invariant-loop-name
-invariant-loop-name l =
-    map permission_view l.views.items ++ permissions_of (tracked_view l.tracked) (drop l.name-index l.name-items) ≡ permissions_of (tracked_view l.tracked) l.set

@@ -1,8 +1,0 @@
-use Rattle.std.proofs.Common.{ap, sym}
-use Rattle.hq_terms.specs.Schema.{no_column, table}
-use Rattle.hq_terms.specs.Scope.{scope_schema}
-use Rattle.hq_terms.proofs.Places.{absent}
-use Rattle.hq_terms.proofs.scope.Scope.column_type.Goals as goal
-
-pub returns-in-None : goal.returns-in-None
-returns-in-None c = ap (λ column. column.ty) (sym (absent (table (scope_schema c.args.self.now) c.args.t).columns c.args.c no_column (sym c.in-None.ensures)))

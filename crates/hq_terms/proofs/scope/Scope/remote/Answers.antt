@@ -1,9 +1,0 @@
-use Rattle.std.proofs.Common.{◌∙◌, ap, sym}
-use Rattle.hq_terms.specs.Schema.{no_rel, table}
-use Rattle.hq_terms.specs.Scope.{scope_schema}
-use Rattle.hq_terms.proofs.Places.{absent}
-use Rattle.hq_terms.proofs.scope.Scope.remote.Goals as goal
-
-pub returns-in-None : goal.returns-in-None
-returns-in-None c =
-    c.new.ensures ∙ ap (λ rel. rel.remote) (sym (absent (table (scope_schema c.args.self.now) c.args.t).rels c.args.r no_rel (sym c.in-None.ensures)))

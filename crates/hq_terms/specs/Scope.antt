@@ -1,8 +1,0 @@
--- What a scope stands for.
-use Rattle.hq_terms.specs.Meta.{meta_view}
-use Rattle.hq_terms.specs.Schema.{Schema, schema_of}
-use Rattle.hq_terms.specs.declared.scope.Scope.{Scope}
-
--- the schema of its catalog and metadata
-abbrev pub scope_schema : Scope → Schema
-scope_schema scope = schema_of scope.catalog.now.tables (meta_view scope.meta.now)

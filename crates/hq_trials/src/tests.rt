@@ -1,7 +1,0 @@
-mod deepest;
-mod live;
-mod memory;
-mod pages;
-mod store;
-mod system;
-mod talk;

@@ -1,3 +1,0 @@
-mod Views
-mod Sessions
-mod Worked

@@ -1,4 +1,0 @@
-pub mod Commands
-pub mod Taken
-pub mod Numbers
-mod Authors

@@ -1,7 +1,0 @@
-use Rattle.std.proofs.Common.{◌∙◌, ap₂}
-use Rattle.std.proofs.lemmas.Result.{IfOk-weaker}
-use Rattle.clap.specs.Words.{with_rule}
-use Rattle.hq_words.proofs.arguments.gen_command.Goals as goal
-
-pub returns : goal.returns
-returns c = IfOk-weaker c.arg.result _ _ (λ m h. h.shape c.authors_arg.ensures.local ∙ ap₂ with_rule c.bare_command.ensures c.authors_arg.ensures.rule) c.arg.ensures

@@ -1,9 +1,0 @@
-use Rattle.std.proofs.Common.{◌∙◌, ap₂}
-use Rattle.std.proofs.lemmas.Result.{IfOk-weaker}
-use Rattle.clap.specs.Words.{with_rule}
-use Rattle.hq_words.proofs.arguments.request_command.Goals as goal
-
-pub returns : goal.returns
-returns c =
-    let one = c.in_ok-arg.ensures.shape c.dir_arg.ensures.local ∙ ap₂ with_rule c.bare_command.ensures c.dir_arg.ensures.rule in
-    IfOk-weaker c.arg-2.result _ _ (λ m h. h.shape c.headers_arg.ensures.local ∙ ap₂ with_rule one c.headers_arg.ensures.rule) c.arg-2.ensures

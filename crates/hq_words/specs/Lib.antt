@@ -1,4 +1,0 @@
-pub mod Grammar
-pub mod Asked
-pub mod Parsing
-pub mod Pages

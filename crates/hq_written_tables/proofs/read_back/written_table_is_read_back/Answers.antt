@@ -1,6 +1,0 @@
--- The file's records are those that it was written from, and it ends behind the last one.
-use Rattle.hq_written_tables.proofs.Whole.{written_back}
-use Rattle.hq_written_tables.proofs.read_back.written_table_is_read_back.Goals as goal
-
-pub returns : goal.returns
-returns c = written_back

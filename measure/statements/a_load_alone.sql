@@ -1,1 +1,0 @@
-SELECT json_build_object() AS "v" FROM (SELECT TRUE AS "u") AS "t0"
