@@ -139,7 +139,7 @@ impl Index {
         ensures few { (b : ℕ) → length (entries_of self.now) < 2 ^ b → result.compared ≤ 2 * b + 2 }
     {
         if let Some(span) = self.told(grid, key) {
-            return self.counted(grid, key, span, steps);
+            return self.with_one_compared(grid, key, span, steps);
         }
         if key_has_null(key) {
             return Span {
@@ -159,8 +159,9 @@ impl Index {
         }
     }
 
-    // A span that was told, with one comparison, at its first entry: by such comparisons look-ups are counted.
-    fn counted<L: Ledger>(
+    // A span that was told, and one comparison, at its first entry. It finds nothing: look-ups are counted by their comparisons, so a
+    // look-up that finds rows has one.
+    fn with_one_compared<L: Ledger>(
         &self,
         grid: &Grid,
         key: &[KeyCell<'_>],

@@ -1,17 +1,21 @@
-use Rattle.std.proofs.Common.{get_or, rules}
+use Rattle.std.proofs.Common.{arith, rules, to_z, of_z, ◌≡◌}
+use Rattle.std.specs.Int.{w64}
+use Rattle.std.specs.Int.RustNames.{FitsSigned}
+use Rattle.std.proofs.lemmas.Int.{to_z-of_z}
 use Rattle.hq_load_index.specs.Grids.{rows_in}
-use Rattle.hq_load_index.proofs.Starts.{before_next, starts_more}
+use Rattle.hq_load_index.proofs.Starts.{begin_end, begin_more}
 use Rattle.hq_load_index.proofs.direct.starts_of.Goals as goal
 
-pub loop-at-preserved : goal.loop-at-preserved
-loop-at-preserved c =
-    let columns = c.args.columns.now in
-    let rows = rows_in c.args.grid.now in
-    let entries = c.args.entries.now in
-    record {
-      count = search rules;
-      starts = rw (c.in_ok-push.ensures.items)
-          (starts_more columns rows entries _ c.loop-at.starts.items c.loop-at.at c.next_start-place.result c.loop-at.invariant.count c.loop-at.invariant.starts c.next_start-place.ensures);
-      within = c.next_start-place.ensures.within;
-      before = λ i lt. before_next columns rows _ c.loop-at.at (get_or entries i 0) (c.next_start-place.ensures.before i lt);
-    }
+pub loop-place-preserved : goal.loop-place-preserved
+loop-place-preserved c =
+    begin_more c.args.column (rows_in c.args.grid.now) c.args.entries.now _ c.loop-place.starts.items _ c.loop-place.place c.in-Some.at
+    c.requires.index (omega (arith, c.loop-place-test.true)) (search rules) (search rules) (search rules) (search rules)
+    (record { same = search rules; more = search rules }) c.loop-place.invariant
+
+pub returns : goal.returns
+returns c =
+    let small : FitsSigned w64 c.args.least = search rules in
+    let same : to_z w64 (of_z w64 c.args.least) ≡ c.args.least = to_z-of_z w64 c.args.least small in
+    begin_end c.args.column (rows_in c.args.grid.now) c.args.entries.now _ c.loop-place.starts.items _ c.loop-place.place
+    (omega (arith, c.loop-place-test.false, c.loop-place.auto.place-end))
+    (record { same = search rules; more = search rules }) (rw same at c.loop-place.invariant)

@@ -36,7 +36,7 @@ returns-in-Some-clause-found g c =
     let rows = rows_in c.args.grid.now in
     let entries = entries_of c.args.self.now in
     let key = map cell_view c.args.key.now in
-    let from = subst (IsPlace columns rows entries key false) (sym c.counted.ensures.from) h.from in
-    let to = subst (IsPlace columns rows entries key true) (sym c.counted.ensures.to) h.to in
-    let ordered = place_order columns rows entries key c.counted.result.from c.counted.result.to from to in
-    places_span columns rows entries key c.counted.result.from c.counted.result.to c.requires.entries h.whole from to ordered
+    let from = subst (IsPlace columns rows entries key false) (sym c.with_one_compared.ensures.from) h.from in
+    let to = subst (IsPlace columns rows entries key true) (sym c.with_one_compared.ensures.to) h.to in
+    let ordered = place_order columns rows entries key c.with_one_compared.result.from c.with_one_compared.result.to from to in
+    places_span columns rows entries key c.with_one_compared.result.from c.with_one_compared.result.to c.requires.entries h.whole from to ordered
