@@ -2,6 +2,7 @@
 use Rattle.std.specs.Prelude.{ℕ, List, [], ◌∷◌, map, Option, Some, None, option_map, slice_index_or}
 use Rattle.std.specs.Global.{Vec}
 use Rattle.hq_base.specs.Cells.{CellTree}
+use Rattle.hq_model.specs.Database.{Row}
 use Rattle.hq_sql_cells.specs.View.{cell_view}
 use Rattle.hq_sql_tree.specs.Tree.{JoinTrees, no_join, join, joins_of}
 use Rattle.hq_sql_tree.specs.View.{join_view, select_view}
@@ -50,6 +51,12 @@ abbrev pub row_in : Source → ℕ → NamedRow
 row_in (source.Stored stored) position = slice_index_or (map (named_row stored.now.table.now.columns) (rows_lent stored.now.rows)) position []
 row_in (source.Made rows) position = slice_index_or (map made_view rows.now) position []
 row_in source.One position = row_of_one
+
+-- the values of the row at a place of a table: none where there is no such row, and none of another FROM
+abbrev pub values_in : Source → ℕ → Row
+values_in (source.Stored stored) position = slice_index_or (rows_lent stored.now.rows) position []
+values_in (source.Made rows) position = []
+values_in source.One position = []
 
 -- the first row, and the row of NULLs where there is none
 abbrev pub first_row : List NamedRow → NamedRow

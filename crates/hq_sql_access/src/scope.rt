@@ -3,7 +3,7 @@ ghost use Rattle.std.specs.Prelude.{◌≡◌, ◌&&◌, [], map, length, bytes_
 ghost use Rattle.hq_sql_tree.specs.View.{from_view};
 ghost use Rattle.hq_sql_tree.specs.Meaning.{rows_named};
 ghost use Rattle.hq_sql_access.specs.Lent.{rows_lent};
-ghost use Rattle.hq_sql_access.specs.View.{named_view, made_view, row_view, row_in, world_of, source_view};
+ghost use Rattle.hq_sql_access.specs.View.{named_view, made_view, row_view, row_in, values_in, world_of, source_view};
 ghost use Rattle.hq_sql_access.specs.Sources.{alias_in, rows_given};
 
 use crate::pinned::Pinned;
@@ -121,6 +121,17 @@ fn cells_at<'s, 'd>(made: &'s [Made<'d>], position: usize) -> &'s [Named<'d>]
         return &made[position].cells;
     }
     &[]
+}
+
+/// The values of the row at this place of a table, counted from 0: none where there is no such row, and none of another FROM.
+pub fn stored_values<'s, 'd>(source: Source<'s, 'd>, position: usize) -> &'d [Val]
+    ensures { result.now ≡ values_in source.entry position }
+{
+    match source {
+        Source::Stored(stored) => values_at(stored.rows, position),
+        Source::Made(_) => &[],
+        Source::One => &[],
+    }
 }
 
 /// The row at this place, counted from 0: without cells where there is none.

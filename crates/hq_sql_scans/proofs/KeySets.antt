@@ -24,7 +24,7 @@ use Rattle.hq_sql_tree.specs.View.{expr_view}
 use Rattle.hq_sql_tree.specs.declared.expr.Expr.{Expr}
 use Rattle.hq_sql_access.specs.Equations.{key_cell}
 use Rattle.hq_sql_access.specs.KeySets.{IsKeySet, keeps_key, link_keys}
-use Rattle.hq_sql_scans.specs.ChosenKeys.{Gathers, KeepsKeys, chosen, picked}
+use Rattle.hq_sql_scans.specs.ChosenKeys.{Gathers, KeepsKeys, chosen, is_key, picked}
 use Rattle.hq_sql_access.specs.Sources.{has_items}
 use Rattle.hq_sql_access.specs.View.{scope_of}
 use Rattle.hq_sql_access.specs.declared.pinned.KeySet.{KeySet}
@@ -208,8 +208,6 @@ set_is w p rows bs columns links s keeps same over own is =
           ∙ ap (λ ls. has_items (rows_with (columns_of s.index) (link_keys ls n) (rows_in s.grid))) (sym same));
     }
 
--- whether one of the keys is that of a scope, as a look-up tells it
-pub told_key : (s : KeySet) (names : Names) (key : List CellTree) (found : List ℕ) → key ≡ link_keys s.links.items names
-    → found ≡ rows_with (columns_of s.index) key (rows_in s.grid) → not (length found == 0) ≡ keeps_key s names
-told_key s names key found e is =
-    items_told found ∙ ap has_items is ∙ ap (λ k. has_items (rows_with (columns_of s.index) k (rows_in s.grid))) e
+-- whether this is one of the keys, as a look-up tells it
+pub told_has : (s : KeySet) (key : List CellTree) (found : List ℕ) → found ≡ rows_with (columns_of s.index) key (rows_in s.grid) → not (length found == 0) ≡ is_key s key
+told_has s key found is = items_told found ∙ ap has_items is

@@ -2,15 +2,24 @@
 use Rattle.std.specs.Prelude.{◌≡◌, ◌≤◌, ℕ, List, [], ◌∷◌, map, flat_map, take, cond, length, Bool, slice_index_or}
 use Rattle.std.specs.Borrow.{Bor}
 use Rattle.std.specs.List.{list_any}
+use Rattle.hq_base.specs.Cells.{CellTree}
 use Rattle.hq_base.specs.declared.value.Val.{Val}
 use Rattle.hq_base.specs.declared.value.Val.TheVariants as val
 use Rattle.hq_model.specs.Database.{Row}
+use Rattle.hq_load_index.specs.Grids.{rows_in}
+use Rattle.hq_load_index.specs.Indexes.{columns_of, rows_with}
 use Rattle.hq_load_index.specs.Keys.{has_key}
 use Rattle.hq_model.specs.Logic.{truth_of}
 use Rattle.hq_sql_tree.specs.declared.expr.Expr.{Expr}
 use Rattle.hq_sql_tree.specs.Meaning.{Scope as Names, World, truth_at}
 use Rattle.hq_sql_tree.specs.Tree.{PredTree}
 use Rattle.hq_sql_access.specs.KeySets.{link_keys}
+use Rattle.hq_sql_access.specs.Sources.{has_items}
+use Rattle.hq_sql_access.specs.declared.pinned.KeySet.{KeySet}
+
+-- whether this is one of the keys of a set
+abbrev pub is_key : KeySet → List CellTree → Bool
+is_key s key = has_items (rows_with (columns_of s.index) key (rows_in s.grid))
 
 -- the cells of a row in columns
 abbrev pub picked : (columns : List ℕ) → Row → List Val

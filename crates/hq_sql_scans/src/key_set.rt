@@ -8,7 +8,7 @@ ghost use Rattle.hq_model.specs.Logic.{truth_of};
 ghost use Rattle.hq_sql_tree.specs.Meaning.{World, truth_at};
 ghost use Rattle.hq_sql_tree.specs.View.{pred_view};
 ghost use Rattle.hq_sql_access.specs.KeySets.{IsKeySet, keeps_key, link_keys};
-ghost use Rattle.hq_sql_scans.specs.ChosenKeys.{Gathers, KeepsKeys, chosen, picked};
+ghost use Rattle.hq_sql_scans.specs.ChosenKeys.{Gathers, KeepsKeys, chosen, is_key, picked};
 ghost use Rattle.hq_sql_access.specs.View.{names_of, scope_of, world_of};
 
 use hq_base::{Memory, Val};
@@ -55,6 +55,17 @@ fn key_at<'d>(
     Ok(Some(key))
 }
 
+/// Whether this is one of the keys. Adds the comparisons of its look-up.
+#[tactic(auto, using(crate::proofs::KeySets::told_has))]
+pub fn has_key<'d>(set: &KeySet<'d>, key: &[KeyCell<'_>], looked: &Cell<u64>) -> bool
+    requires { IsOver (rows_in set.now.grid) set.now.index }
+    ensures { result ≡ is_key set.now (map key_view key.now) }
+{
+    let found = set.index.found(&set.grid, key);
+    looked.set(looked.get().saturating_add(found.compared));
+    !found.rows.is_empty()
+}
+
 /// Whether one of the keys is that of a scope; None where that is not known without evaluating a join.
 pub fn has_row<'d>(
     alloc: Global,
@@ -68,9 +79,7 @@ pub fn has_row<'d>(
     let Some(key) = key_at(alloc, &set.links, scope)? else {
         return Ok(None);
     };
-    let found = set.index.found(&set.grid, &key);
-    looked.set(looked.get().saturating_add(found.compared));
-    Ok(Some(!found.rows.is_empty()))
+    Ok(Some(has_key(set, &key, looked)))
 }
 
 /// Whether a condition is true, where keys are known of it; None where none are, or that of the scope is not known without evaluating
