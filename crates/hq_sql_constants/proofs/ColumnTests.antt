@@ -1,28 +1,22 @@
 -- Conditions that ask one column of a table for something that constants tell.
-use Rattle.std.proofs.Common.{◌≡◌, ◌∙◌, ◌<◌, ◌≤◌, ◌+◌, ℕ, zero, suc, List, [], ◌∷◌, ◌++◌, map, length, get_or, take, Bool, true, false, ◌||◌, refl, sym, ap, ap₂, subst, add-one, arith}
-use Rattle.std.specs.List.{list_any}
+use Rattle.std.proofs.Common.{◌≡◌, ◌∙◌, ◌<◌, ◌+◌, ℕ, List, [], ◌∷◌, ◌++◌, map, length, get_or, take, sym, ap, ap₂, add-one}
 use Rattle.std.proofs.Math.Seq.{take-suc}
-use Rattle.std.proofs.lemmas.List.{map-append, take_all}
+use Rattle.std.proofs.lemmas.List.{map-append}
 use Rattle.hq_base.specs.Cells.{CellTree}
 use Rattle.hq_base.proofs.Lists.{map_map}
 use Rattle.hq_load_index.specs.Keys.{cell_in}
-use Rattle.hq_model.specs.Database.{Row}
-use Rattle.hq_model.specs.Logic.{is_true, negated_if, not3, or3}
 use Rattle.hq_model.specs.Tests.{test_truth}
 use Rattle.hq_model.specs.declared.table.Column.{Column}
 use Rattle.hq_model.specs.declared.test.Test.{Test}
-use Rattle.hq_model.specs.declared.truth.Truth.{Truth}
-use Rattle.hq_model.specs.declared.truth.Truth.TheVariants.{Yes, No, Unknown}
 use Rattle.hq_sql_cells.specs.View.{cell_view}
 use Rattle.hq_sql_cells.specs.declared.cell.Cell.{Cell}
 use Rattle.hq_sql_scans.specs.Links.{IsOwn}
-use Rattle.hq_sql_tree.specs.Meaning.{Scope as Names, World, any_true, truth_at, value}
+use Rattle.hq_sql_tree.specs.Meaning.{Scope as Names, value}
 use Rattle.hq_sql_tree.specs.Tree as tree
-use Rattle.hq_sql_tree.specs.Tree.{ExprTree, PredTree, preds_of}
-use Rattle.hq_sql_tree.specs.View.{expr_view, pred_view}
+use Rattle.hq_sql_tree.specs.Tree.{ExprTree}
+use Rattle.hq_sql_tree.specs.View.{expr_view}
 use Rattle.hq_sql_tree.specs.declared.expr.Expr.{Expr}
-use Rattle.hq_sql_tree.specs.declared.select.Pred.{Pred}
-use Rattle.hq_sql_constants.specs.Plain.{AreTests, IsPlainTest, IsTest, one_holds, told, turned}
+use Rattle.hq_sql_constants.specs.Plain.{IsTest}
 use Rattle.hq_sql_constants.specs.declared.plain.ColumnTest.{ColumnTest}
 
 -- ---- constants
@@ -41,119 +35,11 @@ constants_more exprs i e cells c m lt is h k =
 -- a test of a column beside constants
 pub test_is : (columns : List Column) (alias : List ℕ) (own : ExprTree) (at : ℕ) (t : Test) (es : List Expr) (x : ColumnTest)
     → IsOwn columns alias own at → ((m : Names) → map (λ e. value (expr_view e) [] m) es ≡ map cell_view x.operands.items)
-    → x.column ≡ at → x.test ≡ t → x.negated ≡ false → IsPlainTest columns alias (tree.test own t (map expr_view es)) x
-test_is columns alias own at t es x is known column same plain =
-    record {
-      is = record {
-        says = λ w row m here.
-            let operands : map (λ e. value e [] m) (map expr_view es) ≡ map cell_view x.operands.items = map_map (λ e. value e [] m) expr_view es ∙ known m in
-            ap₂ (λ c ds. test_truth t c ds) (is.cell row m here) operands
-            ∙ ap₂ (λ u k. test_truth u (cell_in row k) (map cell_view x.operands.items)) (sym same) (sym column)
-            ∙ ap (λ b. negated_if b (test_truth x.test (cell_in row x.column) (map cell_view x.operands.items))) (sym plain);
-      };
-      plain = plain;
-    }
-
--- what NOT makes of a test says what the NOT of its condition is
-turned_one : (columns : List Column) (alias : List ℕ) (p : PredTree) (t : ColumnTest) → IsPlainTest columns alias p t → IsTest columns alias (tree.negation p) (turned t)
-turned_one columns alias p t h =
+    → x.column ≡ at → x.test ≡ t → IsTest columns alias (tree.test own t (map expr_view es)) x
+test_is columns alias own at t es x is known column same =
     record {
       says = λ w row m here.
-          ap not3 (h.is.says w row m here) ∙ ap (λ b. not3 (negated_if b (test_truth t.test (cell_in row t.column) (map cell_view t.operands.items)))) h.plain;
+          let operands : map (λ e. value e [] m) (map expr_view es) ≡ map cell_view x.operands.items = map_map (λ e. value e [] m) expr_view es ∙ known m in
+          ap₂ (λ c ds. test_truth t c ds) (is.cell row m here) operands
+          ∙ ap₂ (λ u k. test_truth u (cell_in row k) (map cell_view x.operands.items)) (sym same) (sym column);
     }
-
-pub turned_is : (columns : List Column) (alias : List ℕ) (p : PredTree) (t u : ColumnTest) → IsPlainTest columns alias p t → u ≡ turned t → IsTest columns alias (tree.negation p) u
-turned_is columns alias p t u h e = subst (IsTest columns alias (tree.negation p)) (sym e) (turned_one columns alias p t h)
-
-pub plain_is : (columns : List Column) (alias : List ℕ) (p : PredTree) (t : ColumnTest) → IsPlainTest columns alias p t → IsTest columns alias p t
-plain_is columns alias p t h = h.is
-
--- ---- some tests
-
-or_false : (a : Bool) → (a || false) ≡ a
-or_false true = refl
-or_false false = refl
-
--- the one test of a condition
-pub one_is : (columns : List Column) (alias : List ℕ) (p : PredTree) (t : ColumnTest) (ts : List ColumnTest) → IsTest columns alias p t → ts ≡ t ∷ [] → AreTests columns alias p ts
-one_is columns alias p t ts h e =
-    subst (AreTests columns alias p) (sym e) (record { keeps = λ w row m here. ap is_true (h.says w row m here) ∙ sym (or_false (is_true (told t row))) })
-
--- an OR of nothing is never true
-pub tests_none : (columns : List Column) (alias : List ℕ) → AreTests columns alias (tree.any_of tree.no_pred) []
-tests_none columns alias = record { keeps = λ w row m here. refl }
-
-or3_yes : (x y : Truth) → is_true (or3 x y) ≡ (is_true x || is_true y)
-or3_yes Yes y = refl
-or3_yes No y = refl
-or3_yes Unknown Yes = refl
-or3_yes Unknown No = refl
-or3_yes Unknown Unknown = refl
-
-or3_no : (x : Truth) → or3 x No ≡ x
-or3_no Yes = refl
-or3_no No = refl
-or3_no Unknown = refl
-
-or3_assoc : (x y z : Truth) → or3 x (or3 y z) ≡ or3 (or3 x y) z
-or3_assoc Yes y z = refl
-or3_assoc No y z = refl
-or3_assoc Unknown Yes z = refl
-or3_assoc Unknown No Yes = refl
-or3_assoc Unknown No No = refl
-or3_assoc Unknown No Unknown = refl
-or3_assoc Unknown Unknown Yes = refl
-or3_assoc Unknown Unknown No = refl
-or3_assoc Unknown Unknown Unknown = refl
-
-any_last : (ps : List Pred) (p : Pred) (w : World) (m : Names) → any_true (preds_of (map pred_view (ps ++ p ∷ []))) w m ≡ or3 (any_true (preds_of (map pred_view ps)) w m) (truth_at (pred_view p) w m)
-any_last [] p w m = or3_no (truth_at (pred_view p) w m)
-any_last (q ∷ qs) p w m = ap (or3 (truth_at (pred_view q) w m)) (any_last qs p w m) ∙ or3_assoc (truth_at (pred_view q) w m) (any_true (preds_of (map pred_view qs)) w m) (truth_at (pred_view p) w m)
-
-or_assoc : (a b c : Bool) → ((a || b) || c) ≡ (a || (b || c))
-or_assoc true b c = refl
-or_assoc false b c = refl
-
-any_append : {A : Type 0} (p : A → Bool) (xs ys : List A) → list_any p (xs ++ ys) ≡ (list_any p xs || list_any p ys)
-any_append p [] ys = refl
-any_append p (x ∷ xs) ys = ap (λ b. p x || b) (any_append p xs ys) ∙ sym (or_assoc (p x) (list_any p xs) (list_any p ys))
-
--- one member more
-pub tests_more : (columns : List Column) (alias : List ℕ) (ps : List Pred) (i : ℕ) (p : Pred) (ts more : List ColumnTest) (t : ColumnTest) → i < length ps → p ≡ get_or ps i p
-    → AreTests columns alias (tree.any_of (preds_of (map pred_view (take i ps)))) ts → IsTest columns alias (pred_view p) t → more ≡ ts ++ t ∷ []
-    → AreTests columns alias (tree.any_of (preds_of (map pred_view (take (i + 1) ps)))) more
-tests_more columns alias ps i p ts more t lt is so_far one grown =
-    let longer : take (i + 1) ps ≡ take i ps ++ p ∷ [] = ap (λ n. take n ps) (add-one i) ∙ take-suc ps i p lt ∙ ap (λ d. take i ps ++ d ∷ []) (sym is) in
-    subst (AreTests columns alias (tree.any_of (preds_of (map pred_view (take (i + 1) ps))))) (sym grown)
-    (record {
-      keeps = λ w row m here.
-          let f : ColumnTest → Bool = λ x. is_true (told x row) in
-          ap (λ l. is_true (any_true (preds_of (map pred_view l)) w m)) longer
-          ∙ ap is_true (any_last (take i ps) p w m)
-          ∙ or3_yes (any_true (preds_of (map pred_view (take i ps))) w m) (truth_at (pred_view p) w m)
-          ∙ ap₂ (λ a b. a || b) (so_far.keeps w row m here) (ap is_true (one.says w row m here) ∙ sym (or_false (f t)))
-          ∙ sym (any_append f ts (t ∷ []));
-    })
-
--- ---- at the rows
-
--- none of the tests so far is true of a row
-pub holds_step : (ts : List ColumnTest) (i : ℕ) (t : ColumnTest) (row : Row) → i < length ts → t ≡ get_or ts i t
-    → one_holds (take i ts) row ≡ false → is_true (told t row) ≡ false → one_holds (take (i + 1) ts) row ≡ false
-holds_step ts i t row lt is so_far one =
-    let f : ColumnTest → Bool = λ x. is_true (told x row) in
-    let longer : take (i + 1) ts ≡ take i ts ++ t ∷ [] = ap (λ n. take n ts) (add-one i) ∙ take-suc ts i t lt ∙ ap (λ d. take i ts ++ d ∷ []) (sym is) in
-    ap (list_any f) longer ∙ any_append f (take i ts) (t ∷ []) ∙ ap₂ (λ a b. a || b) so_far (or_false (f t) ∙ one)
-
-pub holds_end : (ts : List ColumnTest) (i : ℕ) (row : Row) → length ts ≤ i → one_holds (take i ts) row ≡ false → one_holds ts row ≡ false
-holds_end ts i row le so_far = ap (λ l. one_holds l row) (sym (take_all i ts le)) ∙ so_far
-
--- one of them is true of a row
-pub holds_found : (ts : List ColumnTest) (i : ℕ) (t : ColumnTest) (row : Row) → i < length ts → t ≡ get_or ts i t → is_true (told t row) ≡ true → one_holds ts row ≡ true
-holds_found [] i t row lt is sure = absurd (omega arith)
-holds_found (x ∷ ts) zero t row lt is sure = ap (λ u. is_true (told u row) || one_holds ts row) (sym is) ∙ ap (λ b. b || one_holds ts row) sure
-holds_found (x ∷ ts) (suc i) t row lt is sure = ap (λ b. is_true (told x row) || b) (holds_found ts i t row (omega arith) is sure) ∙ or_true (is_true (told x row))
-  where
-    or_true : (a : Bool) → (a || true) ≡ true
-    or_true true = refl
-    or_true false = refl

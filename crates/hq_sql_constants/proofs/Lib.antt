@@ -3,6 +3,8 @@ pub mod Chosen
 pub mod Likes
 pub mod Marks
 pub mod ColumnTests
+pub mod KeyTests
+pub mod RowTests
 pub mod Sieving
 pub mod KeyValues
 pub mod Ranges

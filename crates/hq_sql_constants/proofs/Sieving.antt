@@ -5,7 +5,7 @@ use Rattle.std.specs.Global.{Vec}
 use Rattle.std.proofs.Math.Seq.{take-suc}
 use Rattle.std.proofs.lemmas.Bool.{and_parts, false≢true}
 use Rattle.std.proofs.lemmas.List.{at_drop_more, map-append, take_all}
-use Rattle.hq_base.proofs.Lists.{each_weaken}
+use Rattle.hq_base.proofs.Lists.{each_weaken, filter_all}
 use Rattle.hq_model.specs.Database.{Row}
 use Rattle.hq_model.specs.declared.table.Column.{Column}
 use Rattle.hq_sql_access.specs.Equations.{is_joined}
@@ -22,15 +22,15 @@ use Rattle.hq_sql_tree.specs.Meaning.{NamedRow, Scope as Names, World, joined, k
 use Rattle.hq_sql_tree.specs.Tree.{FilterTree, JoinTrees}
 use Rattle.hq_sql_tree.specs.View.{pred_view}
 use Rattle.hq_sql_tree.specs.declared.select.Pred.{Pred}
-use Rattle.hq_sql_constants.specs.Plain.{AreTests, one_holds}
+use Rattle.hq_sql_constants.specs.RowTests.{AreTests, one_holds}
 use Rattle.hq_sql_constants.specs.Sieves.{IsSieve, all_hold}
-use Rattle.hq_sql_constants.specs.declared.plain.ColumnTest.{ColumnTest}
+use Rattle.hq_sql_constants.specs.declared.row_test.RowTest.{RowTest}
 use Rattle.hq_sql_constants.specs.declared.sieve.Sieve.{Sieve}
 
 -- ---- at a row
 
 -- the tests that are left, from one on
-pub hold_more : (tests : List (Vec ColumnTest)) (i : ℕ) (t : Vec ColumnTest) (row : Row) → i < length tests → t ≡ get_or tests i t
+pub hold_more : (tests : List (Vec RowTest)) (i : ℕ) (t : Vec RowTest) (row : Row) → i < length tests → t ≡ get_or tests i t
     → all_hold (drop i tests) row ≡ (one_holds t.items row && all_hold (drop (i + 1) tests) row)
 hold_more tests i t row lt is =
     at_drop_more (λ l. all_hold l row) tests i t lt ∙ ap (λ u. one_holds u.items row && all_hold (drop (i + 1) tests) row) (sym is)
@@ -41,7 +41,7 @@ drop_past [] (suc i) le = refl
 drop_past (x ∷ xs) zero le = absurd (omega arith)
 drop_past (x ∷ xs) (suc i) le = drop_past xs i (omega arith)
 
-pub hold_end : (tests : List (Vec ColumnTest)) (i : ℕ) (row : Row) → length tests ≤ i → all_hold (drop i tests) row ≡ true
+pub hold_end : (tests : List (Vec RowTest)) (i : ℕ) (row : Row) → length tests ≤ i → all_hold (drop i tests) row ≡ true
 hold_end tests i row le = ap (λ l. all_hold l row) (drop_past tests i le)
 
 -- ---- the tests of conditions
@@ -66,69 +66,69 @@ and_last : (b : Bool) → (b && true) ≡ b
 and_last true = refl
 and_last false = refl
 
-hold_last : (tests : List (Vec ColumnTest)) (ts : Vec ColumnTest) (row : Row) → all_hold (tests ++ ts ∷ []) row ≡ (all_hold tests row && one_holds ts.items row)
+hold_last : (tests : List (Vec RowTest)) (ts : Vec RowTest) (row : Row) → all_hold (tests ++ ts ∷ []) row ≡ (all_hold tests row && one_holds ts.items row)
 hold_last [] ts row = and_last (one_holds ts.items row)
 hold_last (t ∷ tests) ts row = ap (λ b. one_holds t.items row && b) (hold_last tests ts row) ∙ and_assoc (one_holds t.items row) (all_hold tests row) (one_holds ts.items row)
 
 -- of no condition there is no test
-pub sieve_none : (columns : List Column) (alias : List ℕ) (s : Sieve) (keeps : World → Names → Bool) → s.tests.items ≡ []
-    → ((w : World) (m : Names) → keeps w m ≡ true) → IsSieve columns alias keeps s
-sieve_none columns alias s keeps none all =
+pub sieve_none : (w : World) (columns : List Column) (alias : List ℕ) (s : Sieve) (keeps : World → Names → Bool) → s.tests.items ≡ []
+    → ((w : World) (m : Names) → keeps w m ≡ true) → IsSieve w columns alias keeps s
+sieve_none w columns alias s keeps none all =
     record {
-      drops = λ w row m here k. ap (λ l. all_hold l row) none;
-      decides = λ sure w row m here k. all w m;
+      drops = λ row m here k. ap (λ l. all_hold l row) none;
+      decides = λ sure row m here k. all w m;
     }
 
 -- the tests of one condition more
-pub sieve_test : (columns : List Column) (alias : List ℕ) (ps : List (Bor Pred)) (i : ℕ) (p : Bor Pred) (s more : Sieve) (ts : Vec ColumnTest)
-    → i < length ps → p ≡ get_or ps i p → IsSieve columns alias (all_kept (lent_views (take i ps))) s
-    → AreTests columns alias (pred_view p.now) ts.items → more.tests.items ≡ s.tests.items ++ ts ∷ [] → more.whole ≡ s.whole
-    → IsSieve columns alias (all_kept (lent_views (take (i + 1) ps))) more
-sieve_test columns alias ps i p s more ts lt is h are grown same =
+pub sieve_test : (w : World) (columns : List Column) (alias : List ℕ) (ps : List (Bor Pred)) (i : ℕ) (p : Bor Pred) (s more : Sieve) (ts : Vec RowTest)
+    → i < length ps → p ≡ get_or ps i p → IsSieve w columns alias (all_kept (lent_views (take i ps))) s
+    → AreTests w columns alias (pred_view p.now) ts.items → more.tests.items ≡ s.tests.items ++ ts ∷ [] → more.whole ≡ s.whole
+    → IsSieve w columns alias (all_kept (lent_views (take (i + 1) ps))) more
+sieve_test w columns alias ps i p s more ts lt is h are grown same =
     let holds : (row : Row) → all_hold more.tests.items row ≡ (all_hold s.tests.items row && one_holds ts.items row) =
     λ row. ap (λ l. all_hold l row) grown ∙ hold_last s.tests.items ts row in
     record {
-      drops = λ w row m here k.
+      drops = λ row m here k.
           let parts = and_parts (all_kept (lent_views (take i ps)) w m) (kept_one (pred_view p.now) w m) (sym (one_more ps i p w m lt is) ∙ k) in
-          holds row ∙ ap₂ (λ a b. a && b) (h.drops w row m here parts.0) (sym (are.keeps w row m here) ∙ parts.1);
-      decides = λ sure w row m here k.
+          holds row ∙ ap₂ (λ a b. a && b) (h.drops row m here parts.0) (sym (are.keeps row m here) ∙ parts.1);
+      decides = λ sure row m here k.
           let parts = and_parts (all_hold s.tests.items row) (one_holds ts.items row) (sym (holds row) ∙ k) in
-          one_more ps i p w m lt is ∙ ap₂ (λ a b. a && b) (h.decides (sym same ∙ sure) w row m here parts.0) (are.keeps w row m here ∙ parts.1);
+          one_more ps i p w m lt is ∙ ap₂ (λ a b. a && b) (h.decides (sym same ∙ sure) row m here parts.0) (are.keeps row m here ∙ parts.1);
     }
 
 -- one condition more that is no test
-pub sieve_other : (columns : List Column) (alias : List ℕ) (ps : List (Bor Pred)) (i : ℕ) (p : Bor Pred) (s more : Sieve)
-    → i < length ps → p ≡ get_or ps i p → IsSieve columns alias (all_kept (lent_views (take i ps))) s
+pub sieve_other : (w : World) (columns : List Column) (alias : List ℕ) (ps : List (Bor Pred)) (i : ℕ) (p : Bor Pred) (s more : Sieve)
+    → i < length ps → p ≡ get_or ps i p → IsSieve w columns alias (all_kept (lent_views (take i ps))) s
     → more.tests.items ≡ s.tests.items → more.whole ≡ false
-    → IsSieve columns alias (all_kept (lent_views (take (i + 1) ps))) more
-sieve_other columns alias ps i p s more lt is h same open_one =
+    → IsSieve w columns alias (all_kept (lent_views (take (i + 1) ps))) more
+sieve_other w columns alias ps i p s more lt is h same open_one =
     record {
-      drops = λ w row m here k.
+      drops = λ row m here k.
           let parts = and_parts (all_kept (lent_views (take i ps)) w m) (kept_one (pred_view p.now) w m) (sym (one_more ps i p w m lt is) ∙ k) in
-          ap (λ l. all_hold l row) same ∙ h.drops w row m here parts.0;
+          ap (λ l. all_hold l row) same ∙ h.drops row m here parts.0;
       decides = λ sure. absurd (false≢true (sym open_one ∙ sure));
     }
 
 -- the tests of all
-pub sieve_end : (columns : List Column) (alias : List ℕ) (ps : List (Bor Pred)) (i : ℕ) (s : Sieve) → length ps ≤ i
-    → IsSieve columns alias (all_kept (lent_views (take i ps))) s → IsSieve columns alias (all_kept (lent_views ps)) s
-sieve_end columns alias ps i s le h = subst (λ l. IsSieve columns alias (all_kept (lent_views l)) s) (take_all i ps le) h
+pub sieve_end : (w : World) (columns : List Column) (alias : List ℕ) (ps : List (Bor Pred)) (i : ℕ) (s : Sieve) → length ps ≤ i
+    → IsSieve w columns alias (all_kept (lent_views (take i ps))) s → IsSieve w columns alias (all_kept (lent_views ps)) s
+sieve_end w columns alias ps i s le h = subst (λ l. IsSieve w columns alias (all_kept (lent_views l)) s) (take_all i ps le) h
 
 -- the tests of the conjuncts that mention the alias alone are those of the condition
-pub sieve_split : (columns : List Column) (alias : List ℕ) (names : List (List ℕ)) (keeps : World → Names → Bool) (weight : ℕ)
+pub sieve_split : (w : World) (columns : List Column) (alias : List ℕ) (names : List (List ℕ)) (keeps : World → Names → Bool) (weight : ℕ)
     (closed rest : List (Bor Pred)) (s more : Sieve)
-    → IsSplit names keeps weight [] [] closed rest → IsSieve columns alias (all_kept (lent_views closed)) s
+    → IsSplit names keeps weight [] [] closed rest → IsSieve w columns alias (all_kept (lent_views closed)) s
     → more.tests.items ≡ s.tests.items → (more.whole ≡ true → (s.whole ≡ true) × (rest ≡ []))
-    → IsSieve columns alias keeps more
-sieve_split columns alias names keeps weight closed rest s more parts h same alone =
+    → IsSieve w columns alias keeps more
+sieve_split w columns alias names keeps weight closed rest s more parts h same alone =
     record {
-      drops = λ w row m here k.
+      drops = λ row m here k.
           let both = and_parts (all_kept (lent_views closed) w m) (all_kept (lent_views rest) w m) (parts.same w m ∙ k) in
-          ap (λ l. all_hold l row) same ∙ h.drops w row m here both.0;
-      decides = λ sure w row m here k.
+          ap (λ l. all_hold l row) same ∙ h.drops row m here both.0;
+      decides = λ sure row m here k.
           let sides = alone sure in
           sym (parts.same w m)
-          ∙ ap₂ (λ a b. a && b) (h.decides sides.0 w row m here (ap (λ l. all_hold l row) (sym same) ∙ k)) (ap (λ l. all_kept (lent_views l) w m) sides.1);
+          ∙ ap₂ (λ a b. a && b) (h.decides sides.0 row m here (ap (λ l. all_hold l row) (sym same) ∙ k)) (ap (λ l. all_kept (lent_views l) w m) sides.1);
     }
 
 -- ---- what they tell
@@ -137,20 +137,24 @@ bound_here : (alias : List ℕ) (n : Names) (row : NamedRow) → with_alias n al
 bound_here alias n row = ap (λ b. cond b row (n alias)) (same_bytes alias)
 
 -- where one is not true of the row WHERE keeps nothing of it
-pub told_dropped : (columns : List Column) (alias : List ℕ) (js : JoinTrees) (f : FilterTree) (s : Sieve) (row : Row) (named : NamedRow)
-    → IsSieve columns alias (kept f) s → is_joined js alias ≡ false → named ≡ named_row columns row → all_hold s.tests.items row ≡ false
-    → (w : World) (n : Names) → filter (kept f w) (joined js w (with_alias n alias named)) ≡ []
-told_dropped columns alias js f s row named h alone is out w n =
+pub told_dropped : (w : World) (columns : List Column) (alias : List ℕ) (js : JoinTrees) (f : FilterTree) (s : Sieve) (row : Row) (named : NamedRow)
+    → IsSieve w columns alias (kept f) s → is_joined js alias ≡ false → named ≡ named_row columns row → all_hold s.tests.items row ≡ false
+    → (n : Names) → filter (kept f w) (joined js w (with_alias n alias named)) ≡ []
+told_dropped w columns alias js f s row named h alone is out n =
     none_kept (kept f w) (joined js w (with_alias n alias named))
     (each_weaken (Keeps js (with_alias n alias named)) (λ m. kept f w m ≡ true → ⊥)
-    (λ m around k. false≢true (sym out ∙ h.drops w row m (around alias alone ∙ bound_here alias n named ∙ is) k))
+    (λ m around k. false≢true (sym out ∙ h.drops row m (around alias alone ∙ bound_here alias n named ∙ is) k))
     (joined js w (with_alias n alias named)) (joined_keeps js w (with_alias n alias named)))
 
--- where all are true, and no other thing is asked for, WHERE keeps it
-pub told_kept : (columns : List Column) (alias : List ℕ) (f : FilterTree) (s : Sieve) (row : Row) (named : NamedRow)
-    → IsSieve columns alias (kept f) s → named ≡ named_row columns row → s.whole ≡ true → all_hold s.tests.items row ≡ true
-    → (w : World) (n : Names) → kept f w (with_alias n alias named) ≡ true
-told_kept columns alias f s row named h is sure holds w n = h.decides sure w row (with_alias n alias named) (bound_here alias n named ∙ is) holds
+-- where all are true, and no other thing is asked for, WHERE keeps each of them
+pub told_kept : (w : World) (columns : List Column) (alias : List ℕ) (js : JoinTrees) (f : FilterTree) (s : Sieve) (row : Row) (named : NamedRow)
+    → IsSieve w columns alias (kept f) s → is_joined js alias ≡ false → named ≡ named_row columns row → s.whole ≡ true → all_hold s.tests.items row ≡ true
+    → (n : Names) → filter (kept f w) (joined js w (with_alias n alias named)) ≡ joined js w (with_alias n alias named)
+told_kept w columns alias js f s row named h alone is sure holds n =
+    filter_all (kept f w) (joined js w (with_alias n alias named))
+    (each_weaken (Keeps js (with_alias n alias named)) (λ m. kept f w m ≡ true)
+    (λ m around. h.decides sure row m (around alias alone ∙ bound_here alias n named ∙ is) holds)
+    (joined js w (with_alias n alias named)) (joined_keeps js w (with_alias n alias named)))
 
 -- the row at a place of a table
 pub row_there : (stored : Bor Stored) (rows : List Row) (i : ℕ) → rows_lent stored.now.rows ≡ rows

@@ -1,19 +1,22 @@
 //! Conditions that ask columns of a table for something that constants tell. Scans whose WHERE asks a column to be one of many
-//! constants, in a range of few rows, or like a long pattern: rows that are not are left out before WHERE is tried. Tests of
-//! columns beside constants are tried at the values of rows, without a scope. What an EXISTS whose keys are known asks of a column is that it is one of
-//! these.
+//! constants, in a range of few rows, or like a long pattern: rows that are not are left out before WHERE is tried. What an EXISTS
+//! whose keys are known asks of a column is that it is one of these. Tests of columns beside constants, and of the keys of an EXISTS,
+//! are tried at the values of rows, without a scope.
 #![tactic(auto)]
 
+mod key_test;
 mod keyed;
 mod listed;
 mod marked;
 mod patterns;
 mod plain;
 mod ranged;
+mod row_test;
 mod sieve;
 mod sifted;
 mod spans;
 
-pub use plain::{ColumnTest, cell_in, one_holds, tests_of};
+pub use plain::cell_in;
+pub use row_test::{RowTest, one_holds, tests_of};
 pub use sieve::{Sieve, Verdict, sieve_of, verdict_at};
 pub use sifted::{has_many, left_of, with_left};

@@ -1,26 +1,25 @@
-//! Conditions that ask one column of a table for something that constants tell, or one of several such things: the column is found
-//! once, and they are tried at the values of the rows, without a scope.
-ghost use Rattle.std.specs.Prelude.{◌≡◌, [], true, map, IfOk, IfSome};
+//! Conditions that ask one column of a table for something that constants tell: the column is found once, and they are tried at the
+//! values of the rows, without a scope.
+ghost use Rattle.std.specs.Prelude.{◌≡◌, [], map, IfOk, IfSome};
 ghost use Rattle.hq_load_index.specs.Keys.{cell_in};
 ghost use Rattle.hq_sql_cells.specs.View.{cell_view};
 ghost use Rattle.hq_sql_scans.specs.Links.{IsOwn};
 ghost use Rattle.hq_sql_tree.specs.Meaning.{Scope as Names, value};
-ghost use Rattle.hq_sql_tree.specs.Tree.{any_of, negation, preds_of, test as tested};
+ghost use Rattle.hq_sql_tree.specs.Tree.{test as tested};
 ghost use Rattle.hq_sql_tree.specs.View.{expr_view, pred_view};
-ghost use Rattle.hq_sql_constants.specs.Plain.{AreTests, IsPlainTest, IsTest, one_holds, told, turned};
+ghost use Rattle.hq_sql_constants.specs.Plain.{IsTest, told};
 
 use hq_base::{Memory, Txt, Val};
 use hq_model::{ColId, Column, Test, Truth};
 use hq_sql_cells::{Cell, test_truth};
 use hq_sql_scans::links::own_column;
-use hq_sql_tree::{Expr, ExprList, Pred, PredList};
+use hq_sql_tree::{Expr, ExprList, Pred};
 use std::alloc::Global;
 
-/// A test of a column beside constants, or what NOT makes of it.
+/// A test of a column beside constants.
 #[derive(Drop)]
 pub struct ColumnTest<'d> {
     pub column: ColId,
-    pub negated: bool,
     pub test: Test,
     pub operands: Vec<Cell<'d>>,
 }
@@ -68,7 +67,7 @@ fn column_test<'d>(
     columns: &[Column],
     alias: &Txt,
 ) -> Result<Option<ColumnTest<'d>>, Memory>
-    ensures { IfOk result (λ found. IfSome found (λ t. IsPlainTest columns.now alias.now (tested (expr_view own.now) test (map expr_view operands.now.items)) t)) }
+    ensures { IfOk result (λ found. IfSome found (λ t. IsTest columns.now alias.now (tested (expr_view own.now) test (map expr_view operands.now.items)) t)) }
 {
     let Some(column) = own_column(own, columns, alias) else {
         return Ok(None);
@@ -79,7 +78,6 @@ fn column_test<'d>(
     match constants(alloc, operands.as_slice())? {
         Some(operands) => Ok(Some(ColumnTest {
             column,
-            negated: false,
             test,
             operands,
         })),
@@ -87,14 +85,14 @@ fn column_test<'d>(
     }
 }
 
-// The same of a condition.
-fn test_of<'d>(
+/// The same of a condition.
+pub(crate) fn test_of<'d>(
     alloc: Global,
     pred: &'d Pred,
     columns: &[Column],
     alias: &Txt,
 ) -> Result<Option<ColumnTest<'d>>, Memory>
-    ensures { IfOk result (λ found. IfSome found (λ t. IsPlainTest columns.now alias.now (pred_view pred.now) t)) }
+    ensures { IfOk result (λ found. IfSome found (IsTest columns.now alias.now (pred_view pred.now))) }
 {
     match pred {
         Pred::Test {
@@ -104,116 +102,6 @@ fn test_of<'d>(
         } => column_test(alloc, value, *test, operands, columns, alias),
         Pred::True | Pred::False | Pred::Not(_) | Pred::And(_) | Pred::Or(_) | Pred::Exists(_) =>
             Ok(None),
-    }
-}
-
-// What NOT makes of a test.
-fn turned<'d>(test: ColumnTest<'d>) -> ColumnTest<'d>
-    ensures { result ≡ turned test.entry }
-{
-    ColumnTest {
-        column: test.column,
-        negated: true,
-        test: test.test,
-        operands: test.operands,
-    }
-}
-
-// The test that the NOT of a condition is.
-#[tactic(auto, using(crate::proofs::ColumnTests::turned_is))]
-fn test_under<'d>(
-    alloc: Global,
-    pred: &'d Pred,
-    columns: &[Column],
-    alias: &Txt,
-) -> Result<Option<ColumnTest<'d>>, Memory>
-    ensures { IfOk result (λ found. IfSome found (IsTest columns.now alias.now (negation (pred_view pred.now)))) }
-{
-    match test_of(alloc, pred, columns, alias)? {
-        Some(test) => Ok(Some(turned(test))),
-        None => Ok(None),
-    }
-}
-
-// The test that a condition is, or its NOT.
-#[tactic(auto, using(crate::proofs::ColumnTests::plain_is))]
-fn plain_test<'d>(
-    alloc: Global,
-    pred: &'d Pred,
-    columns: &[Column],
-    alias: &Txt,
-) -> Result<Option<ColumnTest<'d>>, Memory>
-    ensures { IfOk result (λ found. IfSome found (IsTest columns.now alias.now (pred_view pred.now))) }
-{
-    match pred {
-        Pred::Not(inner) => test_under(alloc, inner, columns, alias),
-        Pred::Test { .. }
-        | Pred::True
-        | Pred::False
-        | Pred::And(_)
-        | Pred::Or(_)
-        | Pred::Exists(_) => match test_of(alloc, pred, columns, alias)? {
-            Some(test) => Ok(Some(test)),
-            None => Ok(None),
-        },
-    }
-}
-
-// The tests of which an OR asks one to be true; None where a member is none.
-#[tactic(auto, using(crate::proofs::ColumnTests::tests_none, crate::proofs::ColumnTests::tests_more))]
-fn tests_of_any<'d>(
-    alloc: Global,
-    preds: &'d PredList,
-    columns: &[Column],
-    alias: &Txt,
-) -> Result<Option<Vec<ColumnTest<'d>>>, Memory>
-    ensures { IfOk result (λ found. IfSome found (λ ts. AreTests columns.now alias.now (any_of (preds_of (map pred_view preds.now.items))) ts.items)) }
-{
-    let mut tests = Vec::with_capacity(alloc, preds.len())?;
-    for pred in preds {
-        match plain_test(alloc, pred, columns, alias)? {
-            Some(test) => tests.push(test)?,
-            None => return Ok(None),
-        }
-    }
-    Ok(Some(tests))
-}
-
-// The one test that a condition is.
-#[tactic(auto, using(crate::proofs::ColumnTests::one_is))]
-fn tests_of_one<'d>(
-    alloc: Global,
-    pred: &'d Pred,
-    columns: &[Column],
-    alias: &Txt,
-) -> Result<Option<Vec<ColumnTest<'d>>>, Memory>
-    ensures { IfOk result (λ found. IfSome found (λ ts. AreTests columns.now alias.now (pred_view pred.now) ts.items)) }
-{
-    let Some(test) = plain_test(alloc, pred, columns, alias)? else {
-        return Ok(None);
-    };
-    let mut tests = Vec::new(alloc);
-    tests.push(test)?;
-    Ok(Some(tests))
-}
-
-/// The tests of columns of a table of which a condition asks one to be true; None where it asks for another thing.
-pub fn tests_of<'d>(
-    alloc: Global,
-    pred: &'d Pred,
-    columns: &[Column],
-    alias: &Txt,
-) -> Result<Option<Vec<ColumnTest<'d>>>, Memory>
-    ensures { IfOk result (λ found. IfSome found (λ ts. AreTests columns.now alias.now (pred_view pred.now) ts.items)) }
-{
-    match pred {
-        Pred::Or(preds) => tests_of_any(alloc, preds, columns, alias),
-        Pred::Test { .. }
-        | Pred::True
-        | Pred::False
-        | Pred::Not(_)
-        | Pred::And(_)
-        | Pred::Exists(_) => tests_of_one(alloc, pred, columns, alias),
     }
 }
 
@@ -227,27 +115,10 @@ pub fn cell_in<'d>(row: &'d [Val], column: ColId) -> Cell<'d>
     }
 }
 
-// What a test says of a row.
-fn told(alloc: Global, test: &ColumnTest<'_>, row: &[Val]) -> Result<Truth, Memory>
+/// What a test says of a row.
+pub(crate) fn told(alloc: Global, test: &ColumnTest<'_>, row: &[Val]) -> Result<Truth, Memory>
     ensures { IfOk result (λ t. t ≡ told test.now row.now) }
 {
     let cell = cell_in(row, test.column);
-    let truth = test_truth(alloc, test.test, &cell, &test.operands)?;
-    if test.negated {
-        return Ok(truth.negated());
-    }
-    Ok(truth)
-}
-
-/// Whether one of the tests is true of a row.
-#[tactic(auto, using(crate::proofs::ColumnTests::holds_step, crate::proofs::ColumnTests::holds_end))]
-pub fn one_holds(alloc: Global, tests: &[ColumnTest<'_>], row: &[Val]) -> Result<bool, Memory>
-    ensures { IfOk result (λ b. b ≡ one_holds tests.now row.now) }
-{
-    for test in tests {
-        if told(alloc, test, row)?.is_yes() {
-            return Ok(true);
-        }
-    }
-    Ok(false)
+    test_truth(alloc, test.test, &cell, &test.operands)
 }

@@ -1,4 +1,4 @@
 pub mod Stored
 pub mod Learned
 pub mod Keyed
-pub mod ColumnTests
+pub mod RowTests

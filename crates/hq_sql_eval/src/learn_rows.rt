@@ -237,7 +237,7 @@ fn narrowed_keyed<'s, 'd>(
     Ok(Some(truths))
 }
 
-// The same of a condition over the rows of a table that asks for one of some tests of columns; None of another one.
+// The same of a condition over the rows of a table that asks for one of some tests; None of another one.
 fn narrowed_stored<'d>(
     alloc: Global,
     before: &[bool],
@@ -257,11 +257,11 @@ fn narrowed_stored<'d>(
         (source_view (source.Stored stored.entry))))) }
 {
     let columns = stored.table.columns.as_slice();
-    let Some(tests) = tests_of(alloc, pred, columns, alias)? else {
+    let Some(tests) = tests_of(alloc, pred, columns, alias, world)? else {
         return Ok(None);
     };
     let list = tests.as_slice();
-    let truths = narrowed_by_tests(alloc, before, rows, list)?;
+    let truths = narrowed_by_tests(alloc, before, rows, list, &world.work.looked)?;
     Ok(Some(truths))
 }
 

@@ -7,8 +7,8 @@ use Rattle.hq_sql_tree.specs.declared.expr.Order.{Order}
 use Rattle.hq_sql_tree.specs.declared.select.From.{From}
 use Rattle.hq_sql_tree.specs.declared.select.Join.{Join}
 use Rattle.hq_sql_tree.specs.declared.select.Pred.{Pred}
-use Rattle.hq_sql_tree.specs.Meaning.{NamedRow, Scope as Names, with_alias, kept, distinct_on, offset_by, limited, outputs}
-use Rattle.hq_sql_tree.specs.Tree.{JoinTrees, no_join}
+use Rattle.hq_sql_tree.specs.Meaning.{NamedRow, Scope as Names, with_alias, joined, kept, distinct_on, offset_by, limited, outputs}
+use Rattle.hq_sql_tree.specs.Tree.{JoinTrees}
 use Rattle.hq_sql_tree.specs.View.{expr_view, filter_view, from_view, order_view, out_view}
 use Rattle.hq_sql_access.specs.Keys.{keyed_at}
 use Rattle.hq_sql_scans.specs.Positions.{rows_at, kept_of, arranged}
@@ -40,9 +40,9 @@ Continues source positions from alias js f world scope piece =
     kept_from (take from (rows_at source positions)) alias js f world scope ++ map (scope_at source alias js world scope) piece.places.items
     ≡ kept_from (take piece.next (rows_at source positions)) alias js f world scope
 
--- what is told of what is in scope at a row of FROM is so
+-- what is told of what is in scope at a row of FROM is so: WHERE keeps each row of the joins at it, or none
 abbrev pub Told : JoinTrees → Option Pred → Pinned → Names → Verdict → Type 0
-Told js f world names Kept = (js ≡ no_join) × (kept (filter_view f) (world_of world) names ≡ true)
+Told js f world names Kept = kept_joins js f world names ≡ joined js (world_of world) names
 Told js f world names Dropped = kept_joins js f world names ≡ []
 Told js f world names Open = Unit {0}
 

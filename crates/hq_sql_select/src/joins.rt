@@ -21,11 +21,11 @@ use std::alloc::Global;
 
 /// Of each row of the joins that WHERE keeps, which rows the joins have in it.
 #[cycle(eval)]
-pub fn gather<'d>(
+pub fn gather<'f, 'd: 'f>(
     alloc: Global,
     joins: &'d [Join],
     stages: &[Stage],
-    filter: &'d Option<Pred>,
+    filter: &'f Option<Pred>,
     world: &Pinned<'d>,
     scope: &Scope<'_, 'd>,
 ) -> Result<Vec<Joined<'d>>, Memory>
@@ -45,16 +45,16 @@ pub fn gather<'d>(
 
 // The same where no join is left: the row itself, if WHERE keeps it.
 #[cycle(eval)]
-fn gather_alone<'d>(
+fn gather_alone<'f, 'd: 'f>(
     alloc: Global,
-    filter: &'d Option<Pred>,
+    filter: &'f Option<Pred>,
     world: &Pinned<'d>,
     scope: &Scope<'_, 'd>,
 ) -> Result<Vec<Joined<'d>>, Memory>
     ensures { IfOk result (λ lists. Gathers no_join filter.now world.now (names_of scope.now world.now) lists.items) }
 {
     let mut lists = Vec::new(alloc);
-    if kept(alloc, filter, world, scope)? {
+    if kept(alloc, filter, &*world, &*scope)? {
         lists.push(Vec::new(alloc))?;
     }
     Ok(lists)
@@ -62,13 +62,13 @@ fn gather_alone<'d>(
 
 // The same where the first join gives one row at most, and WHERE does not need it.
 #[cycle(eval)]
-fn gather_put_off<'d>(
+fn gather_put_off<'f, 'd: 'f>(
     alloc: Global,
     join: &'d Join,
     rest: &'d [Join],
     stage: Stage,
     stages: &[Stage],
-    filter: &'d Option<Pred>,
+    filter: &'f Option<Pred>,
     world: &Pinned<'d>,
     scope: &Scope<'_, 'd>,
 ) -> Result<Vec<Joined<'d>>, Memory>
@@ -90,12 +90,12 @@ fn gather_put_off<'d>(
 
 // The same where the first join is evaluated before WHERE.
 #[cycle(eval)]
-fn gather_each<'d>(
+fn gather_each<'f, 'd: 'f>(
     alloc: Global,
     join: &'d Join,
     rest: &'d [Join],
     stages: &[Stage],
-    filter: &'d Option<Pred>,
+    filter: &'f Option<Pred>,
     world: &Pinned<'d>,
     scope: &Scope<'_, 'd>,
 ) -> Result<Vec<Joined<'d>>, Memory>
@@ -108,13 +108,13 @@ fn gather_each<'d>(
 
 // The same at each of these rows of the first join.
 #[cycle(eval)]
-fn spread<'d>(
+fn spread<'f, 'd: 'f>(
     alloc: Global,
     made: Vec<Made<'d>>,
     join: &'d Join,
     rest: &'d [Join],
     stages: &[Stage],
-    filter: &'d Option<Pred>,
+    filter: &'f Option<Pred>,
     world: &Pinned<'d>,
     scope: &Scope<'_, 'd>,
 ) -> Result<Vec<Joined<'d>>, Memory>
@@ -130,13 +130,13 @@ fn spread<'d>(
 
 // The same beside one row of the first join.
 #[cycle(eval)]
-fn gather_beside<'d>(
+fn gather_beside<'f, 'd: 'f>(
     alloc: Global,
     row: &Made<'d>,
     join: &'d Join,
     rest: &'d [Join],
     stages: &[Stage],
-    filter: &'d Option<Pred>,
+    filter: &'f Option<Pred>,
     world: &Pinned<'d>,
     scope: &Scope<'_, 'd>,
 ) -> Result<Vec<Joined<'d>>, Memory>

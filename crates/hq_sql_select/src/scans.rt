@@ -1,5 +1,5 @@
 //! Scans: which rows of FROM and its joins WHERE keeps.
-ghost use Rattle.std.specs.Prelude.{◌≡◌, ◌+◌, ◌<◌, ◌≤◌, false, length, IfOk, IfSome, OnOk};
+ghost use Rattle.std.specs.Prelude.{◌≡◌, ◌+◌, ◌<◌, ◌≤◌, false, length, None, IfOk, IfSome, OnOk};
 ghost use Rattle.hq_sql_conjuncts.specs.Conjuncts.{lent_weight};
 ghost use Rattle.hq_sql_conjuncts.specs.Weight.{filter_weight};
 ghost use Rattle.hq_sql_tree.specs.Tree.{no_join};
@@ -32,6 +32,29 @@ pub struct Piece<'d> {
     pub next: usize,
 }
 
+// Adds the places of all rows of the joins at a row of FROM.
+#[cycle(eval)]
+fn add_all<'d>(
+    alloc: Global,
+    places: &mut Vec<JoinedRow<'d>>,
+    position: usize,
+    joins: &'d [Join],
+    stages: &[Stage],
+    world: &Pinned<'d>,
+    scope: &Scope<'_, 'd>,
+) -> Result<(), Memory>
+    ensures { OnOk result (Adds (joins_view joins.now) None world.now (names_of scope.now world.now) position places.old.items places.new.items) }
+{
+    if joins.is_empty() {
+        let joined = Vec::new(alloc);
+        places.push(JoinedRow { position, joined })?;
+        return Ok(());
+    }
+    let none = None;
+    let lists = gather(alloc, joins, stages, &none, world, scope)?;
+    add_places(places, position, lists)
+}
+
 // Adds the places of the rows of the joins that WHERE keeps at a row of FROM, of which something may be told.
 #[cycle(eval)]
 fn add_row<'d>(
@@ -49,11 +72,7 @@ fn add_row<'d>(
     ensures { OnOk result (Adds (joins_view joins.now) filter.now world.now (names_of scope.now world.now) position places.old.items places.new.items) }
 {
     match verdict {
-        Verdict::Kept => {
-            let joined = Vec::new(alloc);
-            places.push(JoinedRow { position, joined })?;
-            Ok(())
-        }
+        Verdict::Kept => add_all(alloc, places, position, joins, stages, world, scope),
         Verdict::Dropped => Ok(()),
         Verdict::Open => {
             let lists = gather(alloc, joins, stages, filter, world, scope)?;
@@ -86,11 +105,13 @@ pub fn scan_from<'s, 'd>(
 {
     let mut places = Vec::new(alloc);
     let end = number_of(positions);
-    let sieve = sieve_of(alloc, source, alias, joins, filter, end - from)?;
+    let sieve = sieve_of(alloc, source, alias, joins, filter, end - from, world)?;
     let tests = &sieve;
     for turn in from..end {
         let position = position_at(positions, turn);
-        let verdict = verdict_at(alloc, source, alias, joins, filter, tests, position)?;
+        let verdict = verdict_at(
+            alloc, source, alias, joins, filter, tests, position, world,
+        )?;
         let at = Scope::Bound {
             alias,
             row: row_at(source, position),

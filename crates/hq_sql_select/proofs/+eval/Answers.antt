@@ -45,7 +45,7 @@ use Rattle.hq_sql_select.proofs.Ordered.{elements_are, arranged_is, groups_are}
 use Rattle.hq_sql_select.proofs.Evaluated.{members_mapped, outputs_all, later_is, keys_is, spread_step, any_found, any_passed, scan_step, rows_are, exists_is, paged_map, scan_all, page_front, top_step, top_page, group_step, group_page, group_all}
 use Rattle.hq_sql_select.proofs.Loops.{map_more, scope_more, value_more, holds_next, next_item, view_pair, view_key}
 use Rattle.hq_sql_select.proofs.Told.{none_in, tells_at}
-use Rattle.hq_sql_select.proofs.Verdicts.{adds_kept, told_there}
+use Rattle.hq_sql_select.proofs.Verdicts.{told_there}
 use Rattle.hq_sql_select.specs.Selected.{Told}
 use Rattle.hq_sql_constants.specs.Sieves.{Tells}
 use Rattle.hq_sql_constants.specs.declared.sieve.Verdict.TheVariants as verdict
@@ -341,7 +341,7 @@ scans::any_row-returns t c =
 
 pub scans::scan_from-add_row-requires : goal.scans::scan_from-add_row-requires
 scans::scan_from-add_row-requires t c =
-    let told : Tells (joins_of (map join_view c.args.joins.now)) (filter_view c.args.filter.now) c.args.alias.now (row_in c.args.source c.position_at-position.result) c.in_ok-verdict.verdict =
+    let told : Tells (world_of c.args.world.now) (joins_of (map join_view c.args.joins.now)) (filter_view c.args.filter.now) c.args.alias.now (row_in c.args.source c.position_at-position.result) c.in_ok-verdict.verdict =
     c.in_ok-verdict.ensures in (
       omega arith,
       told_there (joins_of (map join_view c.args.joins.now)) c.args.filter.now c.args.world.now (names_of c.args.scope.now c.args.world.now) c.args.alias.now
@@ -350,13 +350,6 @@ scans::scan_from-add_row-requires t c =
 
 pub scans::scan_from-verdict_at-requires : goal.scans::scan_from-verdict_at-requires
 scans::scan_from-verdict_at-requires t c = c.in_ok-sieve.ensures
-
-pub scans::add_row-returns-in_ok-push-in-Kept : goal.scans::add_row-returns-in_ok-push-in-Kept
-scans::add_row-returns-in_ok-push-in-Kept t c =
-    let js = joins_of (map join_view c.args.joins.now) in
-    let n = names_of c.args.scope.now c.args.world.now in
-    let told : Told js c.args.filter.now c.args.world.now n verdict.Kept = subst (Told js c.args.filter.now c.args.world.now n) c.in-Kept.is c.requires in
-    adds_kept js c.args.filter.now c.args.world.now n c.args.position _ _ c.new-joined.result told.0 told.1 c.in_ok-push-in-Kept.ensures.items
 
 pub scans::scan_from-loop-turn-preserved : goal.scans::scan_from-loop-turn-preserved
 scans::scan_from-loop-turn-preserved t c =

@@ -13,4 +13,4 @@ returns-in-Some-2 c =
     let is : IsOwn c.args.columns.now c.args.alias.now own c.in-Some.column = rw c.in-Some.is at c.own_column.ensures in
     let known : (m : Names) → map (λ e. value (expr_view e) [] m) c.as_slice.result.now ≡ map cell_view c.in-Some-2.operands.items = rw c.in-Some-2.is at c.in_ok-operands.ensures in
     test_is c.args.columns.now c.args.alias.now own c.in-Some.column c.args.test es _ is
-    (subst (λ xs. (m : Names) → map (λ e. value (expr_view e) [] m) xs ≡ map cell_view c.in-Some-2.operands.items) c.as_slice.ensures.value known) refl refl refl
+    (subst (λ xs. (m : Names) → map (λ e. value (expr_view e) [] m) xs ≡ map cell_view c.in-Some-2.operands.items) c.as_slice.ensures.value known) refl refl

@@ -1,7 +1,7 @@
 use Rattle.std.proofs.Common.{◌∙◌, ◌<◌, ◌&&◌, Bool, false, get_or, length, ap, arith}
 use Rattle.hq_model.specs.Database.{Row}
-use Rattle.hq_sql_constants.specs.Plain.{one_holds}
-use Rattle.hq_sql_eval.proofs.ColumnTests.{rows_step, rows_end}
+use Rattle.hq_sql_constants.specs.RowTests.{one_holds}
+use Rattle.hq_sql_eval.proofs.RowTests.{rows_step, rows_end}
 use Rattle.hq_sql_eval.proofs.plain.narrowed_by_tests.Goals as goal
 
 pub loop-position-preserved : goal.loop-position-preserved

@@ -1,6 +1,6 @@
 use Rattle.std.proofs.Common.{◌≡◌, map, take}
 use Rattle.hq_sql_eval.specs.Narrowed.{narrowed}
-use Rattle.hq_sql_constants.specs.Plain.{one_holds}
+use Rattle.hq_sql_constants.specs.RowTests.{one_holds}
 use Rattle.hq_sql_eval.proofs.plain.narrowed_by_tests.Given as goal
 
 -- the truths at the rows so far

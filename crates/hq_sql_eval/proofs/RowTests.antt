@@ -1,4 +1,4 @@
--- Tests of columns at the rows of a table.
+-- Tests at the rows of a table.
 use Rattle.std.proofs.Common.{◌≡◌, ◌∙◌, ◌<◌, ◌≤◌, ◌+◌, ℕ, List, [], ◌∷◌, ◌++◌, map, length, get_or, take, Bool, false, ◌&&◌, cond, sym, ap, ap₂, add-one, arith}
 use Rattle.std.proofs.lemmas.List.{take_all}
 use Rattle.hq_base.proofs.Lists.{map_map}
@@ -8,8 +8,8 @@ use Rattle.hq_sql_conjuncts.specs.Split.{kept_one}
 use Rattle.hq_sql_scans.proofs.Looked.{same_bytes}
 use Rattle.hq_sql_tree.specs.Meaning.{World, named_row, nothing, with_alias}
 use Rattle.hq_sql_tree.specs.Tree.{PredTree}
-use Rattle.hq_sql_constants.specs.Plain.{AreTests, one_holds}
-use Rattle.hq_sql_constants.specs.declared.plain.ColumnTest.{ColumnTest}
+use Rattle.hq_sql_constants.specs.RowTests.{AreTests, one_holds}
+use Rattle.hq_sql_constants.specs.declared.row_test.RowTest.{RowTest}
 use Rattle.hq_sql_eval.specs.Narrowed.{narrowed}
 use Rattle.hq_sql_eval.proofs.Learned.{at_map, length_map, map_same, narrowed_more}
 
@@ -35,11 +35,11 @@ rows_end f rows before i long le =
     ap₂ narrowed (take_all i before le) (take_all i (map f rows) past)
 
 -- truths by the tests are those of the condition
-pub tested_rows : (w : World) (p : PredTree) (columns : List Column) (alias : List ℕ) (ts : List ColumnTest) (rows lent : List Row) (before truths : List Bool)
-    → AreTests columns alias p ts → lent ≡ rows → truths ≡ narrowed before (map (one_holds ts) rows)
+pub tested_rows : (w : World) (p : PredTree) (columns : List Column) (alias : List ℕ) (ts : List RowTest) (rows lent : List Row) (before truths : List Bool)
+    → AreTests w columns alias p ts → lent ≡ rows → truths ≡ narrowed before (map (one_holds ts) rows)
     → truths ≡ narrowed before (map (λ row. kept_one p w (with_alias nothing alias row)) (map (named_row columns) lent))
 tested_rows w p columns alias ts rows lent before truths are same e =
     e ∙ ap (narrowed before)
-    (map_same (one_holds ts) (λ row. kept_one p w (with_alias nothing alias (named_row columns row))) rows (λ row. sym (are.keeps w row (with_alias nothing alias (named_row columns row)) (ap (λ b. cond b (named_row columns row) []) (same_bytes alias))))
+    (map_same (one_holds ts) (λ row. kept_one p w (with_alias nothing alias (named_row columns row))) rows (λ row. sym (are.keeps row (with_alias nothing alias (named_row columns row)) (ap (λ b. cond b (named_row columns row) []) (same_bytes alias))))
     ∙ sym (map_map (λ row. kept_one p w (with_alias nothing alias row)) (named_row columns) rows)
     ∙ ap (λ rs. map (λ row. kept_one p w (with_alias nothing alias row)) (map (named_row columns) rs)) (sym same))
