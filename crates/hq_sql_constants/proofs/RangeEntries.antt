@@ -16,7 +16,6 @@ use Rattle.hq_load_index.proofs.Sorted.{filter_weaker}
 use Rattle.hq_load_index.specs.Indexes.{by_key, counted, indexed_rows}
 use Rattle.hq_load_index.specs.Keys.{cell_in, cell_view, has_null, key_at, keys_cmp}
 use Rattle.hq_load_index.specs.Places.{IsPlace, before_or}
-use Rattle.hq_load_index.specs.declared.key.KeyCell.{KeyCell}
 use Rattle.hq_model.proofs.CellOrders.{cell_cmp_between, then_equal}
 use Rattle.hq_model.specs.Logic.{compared, is_true, op_test, order_between, tested, truth_of}
 use Rattle.hq_model.specs.declared.op.Op.{Op}
@@ -42,6 +41,7 @@ cells_stand op x y e =
 keys_stand : (op : Op) (x y : CellTree) → is_true (compared op x y) ≡ true → op_test op (keys_cmp (x ∷ []) (y ∷ [])) ≡ true
 keys_stand op x y e = ap (op_test op) (then_equal (cell_cmp x y)) ∙ cells_stand op x y e
 
+-- what is more than a constant does not stand before it, or at it, and so on
 gt_behind : (o : Ordering) → is_gt o ≡ true → before_or o true ≡ true → ⊥
 gt_behind Less e h = cc
 gt_behind Equal e h = cc
@@ -62,63 +62,59 @@ le_before Less e h = cc
 le_before Equal e h = cc
 le_before Greater e h = cc
 
-module _ (column : ℕ) (rows : List (List Val)) (entries : List ℕ) (b : Bound) where
-  -- the cell of an entry, and the constant
-  abbrev cell : ℕ → CellTree
-  cell i = cell_in (get_or rows (get_or entries i 0) []) column
+module _ (column : ℕ) (rows : List (List Val)) (entries : List ℕ) (b : Bound) (old new : Between) (place : ℕ) where
+  -- a place of the constant among the entries
+  abbrev At : (after : Bool) → Type 0
+  At after = IsPlace (column ∷ []) rows entries (cell_view b.value ∷ []) after place
 
-  abbrev key : List CellTree
-  key = cell_view b.value ∷ []
+  -- the new places stand between the old ones, and have those from a place on
+  abbrev FromOn : Type 0
+  FromOn = (new.from ≤ new.to) × (new.to ≤ old.to) × ((i : ℕ) → IsIn old i → place ≤ i → IsIn new i)
+
+  -- or those before it
+  abbrev UpTo : Type 0
+  UpTo = (new.from ≤ new.to) × (new.to ≤ old.to) × ((i : ℕ) → IsIn old i → i < place → IsIn new i)
+
+  -- an entry that meets the comparison stands to the constant as that asks
+  stands_so : (op : Op) → b.op ≡ op → (i : ℕ) → meets b (cell_in (get_or rows (get_or entries i 0) []) column) ≡ true
+      → op_test op (keys_cmp (key_at (column ∷ []) rows (get_or entries i 0)) (cell_view b.value ∷ [])) ≡ true
+  stands_so op is i e =
+      let cell = cell_in (get_or rows (get_or entries i 0) []) column in
+      keys_stand op cell (cell_view b.value) (subst (λ o. is_true (compared o cell (cell_view b.value)) ≡ true) is e)
+
+  -- where what meets it stands behind a place, the places are narrowed by it
+  narrows_from : (op : Op) (after : Bool) → ((o : Ordering) → op_test op o ≡ true → before_or o after ≡ true → ⊥)
+      → b.op ≡ op → At after → FromOn → Narrows column rows entries b old new
+  narrows_from op after never is at h = record {
+    ordered = h.0;
+    within = h.1;
+    keeps = λ i lt e here. h.2 i here (⊎_elim (λ less. absurd (never _ (stands_so op is i e) (at.before i less))) (λ ge. ge) (cases_lt i place));
+  }
+
+  -- and where it stands before one
+  narrows_to : (op : Op) (after : Bool) → ((o : Ordering) → op_test op o ≡ true → before_or o after ≡ false → ⊥)
+      → b.op ≡ op → At after → UpTo → Narrows column rows entries b old new
+  narrows_to op after never is at h = record {
+    ordered = h.0;
+    within = h.1;
+    keeps = λ i lt e here. h.2 i here (⊎_elim (λ less. less) (λ ge. absurd (never _ (stands_so op is i e) (at.behind i ge lt))) (cases_lt i place));
+  }
 
   -- what is more than a constant stands behind those that are it
-  pub behind_gt : (place : ℕ) → b.op ≡ Gt → IsPlace (column ∷ []) rows entries key true place
-      → (i : ℕ) → i < length entries → meets b (cell i) ≡ true → place ≤ i
-  behind_gt place is at i lt e =
-      ⊎_elim (λ less. absurd (gt_behind _ (keys_stand Gt (cell i) (cell_view b.value) (subst (λ o. is_true (compared o (cell i) (cell_view b.value)) ≡ true) is e)) (at.before i less)))
-      (λ ge. ge) (cases_lt i place)
+  pub narrows_gt : b.op ≡ Gt → At true → FromOn → Narrows column rows entries b old new
+  narrows_gt = narrows_from Gt true gt_behind
 
   -- what is not less than it stands from the first that is it on
-  pub behind_ge : (place : ℕ) → b.op ≡ Ge → IsPlace (column ∷ []) rows entries key false place
-      → (i : ℕ) → i < length entries → meets b (cell i) ≡ true → place ≤ i
-  behind_ge place is at i lt e =
-      ⊎_elim (λ less. absurd (ge_behind _ (keys_stand Ge (cell i) (cell_view b.value) (subst (λ o. is_true (compared o (cell i) (cell_view b.value)) ≡ true) is e)) (at.before i less)))
-      (λ ge. ge) (cases_lt i place)
+  pub narrows_ge : b.op ≡ Ge → At false → FromOn → Narrows column rows entries b old new
+  narrows_ge = narrows_from Ge false ge_behind
 
   -- what is less stands before the first that is it
-  pub before_lt : (place : ℕ) → b.op ≡ Lt → IsPlace (column ∷ []) rows entries key false place
-      → (i : ℕ) → i < length entries → meets b (cell i) ≡ true → i < place
-  before_lt place is at i lt e =
-      ⊎_elim (λ less. less)
-      (λ ge. absurd (lt_before _ (keys_stand Lt (cell i) (cell_view b.value) (subst (λ o. is_true (compared o (cell i) (cell_view b.value)) ≡ true) is e)) (at.behind i ge lt)))
-      (cases_lt i place)
+  pub narrows_lt : b.op ≡ Lt → At false → UpTo → Narrows column rows entries b old new
+  narrows_lt = narrows_to Lt false lt_before
 
   -- what is not more stands before those behind it
-  pub before_le : (place : ℕ) → b.op ≡ Le → IsPlace (column ∷ []) rows entries key true place
-      → (i : ℕ) → i < length entries → meets b (cell i) ≡ true → i < place
-  before_le place is at i lt e =
-      ⊎_elim (λ less. less)
-      (λ ge. absurd (le_before _ (keys_stand Le (cell i) (cell_view b.value) (subst (λ o. is_true (compared o (cell i) (cell_view b.value)) ≡ true) is e)) (at.behind i ge lt)))
-      (cases_lt i place)
-
--- a place in an index over the column alone
-pub place_of : (own : List ℕ) (column : ℕ) (grid rows : List (List Val)) (entries : List ℕ) (cells : List KeyCell) (v : KeyCell) (after : Bool) (place : ℕ)
-    → own ≡ column ∷ [] → grid ≡ rows → cells ≡ v ∷ [] → IsPlace own grid entries (map cell_view cells) after place
-    → IsPlace (column ∷ []) rows entries (cell_view v ∷ []) after place
-place_of own column grid rows entries cells v after place alone same one h =
-    subst (λ cs. IsPlace cs rows entries (cell_view v ∷ []) after place) alone
-    (subst (λ g. IsPlace own g entries (cell_view v ∷ []) after place) same
-    (subst (λ ks. IsPlace own grid entries (map cell_view ks) after place) one h))
-
-module _ (column : ℕ) (rows : List (List Val)) (entries : List ℕ) (b : Bound) (old new : Between) (place : ℕ) (ordered : new.from ≤ new.to) (within : new.to ≤ old.to) where
-  -- what meets the comparison stands from a place on
-  pub narrows_from : ((i : ℕ) → IsIn old i → place ≤ i → IsIn new i)
-      → ((i : ℕ) → i < length entries → meets b (cell_in (get_or rows (get_or entries i 0) []) column) ≡ true → place ≤ i) → Narrows column rows entries b old new
-  narrows_from keeps stands = record { ordered = ordered; within = within; keeps = λ i lt e here. keeps i here (stands i lt e) }
-
-  -- or before it
-  pub narrows_to : ((i : ℕ) → IsIn old i → i < place → IsIn new i)
-      → ((i : ℕ) → i < length entries → meets b (cell_in (get_or rows (get_or entries i 0) []) column) ≡ true → i < place) → Narrows column rows entries b old new
-  narrows_to keeps stands = record { ordered = ordered; within = within; keeps = λ i lt e here. keeps i here (stands i lt e) }
+  pub narrows_le : b.op ≡ Le → At true → UpTo → Narrows column rows entries b old new
+  narrows_le = narrows_to Le true le_before
 
 -- ---- several comparisons
 

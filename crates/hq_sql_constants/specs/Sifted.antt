@@ -1,7 +1,8 @@
 -- Places without which WHERE keeps what it keeps with them.
-use Rattle.std.specs.Prelude.{◌≡◌, ◌<◌, ◌+◌, ◌*◌, ◌%◌, ◌==◌, ℕ, List, [], ◌∷◌, length, map, Bool, false, Option, Some, None, slice_index_or}
+use Rattle.std.specs.Prelude.{◌≡◌, ◌<◌, ◌+◌, ◌*◌, ◌%◌, ◌==◌, ℕ, List, [], ◌∷◌, length, map, Bool, false, Option, Some, None, IfSome, slice_index_or}
 use Rattle.std.specs.List.{list_any}
 use Rattle.std.specs.Global.{Vec}
+use Rattle.std.specs.Borrow.{Bor}
 use Rattle.hq_base.specs.Cells.{CellTree, cell_of}
 use Rattle.hq_base.specs.declared.value.Val.{Val}
 use Rattle.hq_base.specs.declared.value.Val.TheVariants as val
@@ -9,13 +10,18 @@ use Rattle.hq_load_index.specs.Grids.{rows_in}
 use Rattle.hq_load_index.specs.Indexes.{IsOver, columns_of, rows_with}
 use Rattle.hq_load_index.specs.Keys.{has_key}
 use Rattle.hq_sql_tree.specs.Meaning.{NamedRow, Scope as Names, World, kept}
-use Rattle.hq_sql_tree.specs.Tree.{FilterTree, JoinTrees}
-use Rattle.hq_sql_tree.specs.View.{expr_view, filter_view, order_view}
+use Rattle.hq_sql_tree.specs.Tree.{FilterTree, JoinTrees, filter, joins_of}
+use Rattle.hq_sql_tree.specs.View.{expr_view, filter_view, join_view, order_view, pred_view}
+use Rattle.hq_sql_tree.specs.declared.select.Join.{Join}
+use Rattle.hq_sql_tree.specs.declared.select.Pred.{Pred}
 use Rattle.hq_sql_access.specs.Sources.{has_items}
-use Rattle.hq_sql_access.specs.View.{scope_of, source_view}
+use Rattle.hq_sql_access.specs.View.{row_in, scope_of, source_view, world_of}
+use Rattle.hq_sql_access.specs.declared.pinned.Pinned.{Pinned}
 use Rattle.hq_sql_access.specs.declared.scope.Scope.{Scope}
 use Rattle.hq_sql_access.specs.declared.scope.Source.{Source}
+use Rattle.hq_sql_access.specs.declared.scope.Source.TheVariants as source
 use Rattle.hq_sql_access.specs.declared.stages.Parts.{Parts}
+use Rattle.hq_sql_access.specs.declared.stored.Stored.{Stored}
 use Rattle.hq_sql_constants.specs.declared.marked.Constants.{Constants}
 use Rattle.hq_sql_scans.specs.Positions.{arranged, kept_of, positions_of, rows_at}
 use Rattle.hq_sql_scans.specs.declared.ordered.Looked.{Looked}
@@ -25,6 +31,15 @@ use Rattle.hq_sql_scans.specs.declared.positions.Positions.{Positions}
 -- over these tables WHERE keeps the same of these rows as of those, whatever is in scope
 pub record KeepsSame (w : World) (js : JoinTrees) (alias : List ℕ) (f : FilterTree) (rows others : List NamedRow) : Type 0 where
   pub same : (n : Names) → kept_of js w n alias (kept f w) rows ≡ kept_of js w n alias (kept f w) others
+
+-- over the tables that are joined WHERE keeps the same of the rows of a source at these places as at those at which a scan looks
+abbrev pub KeepsSameAt : Pinned → List Join → (alias : List ℕ) → FilterTree → Source → Positions → Vec ℕ → Type 0
+KeepsSameAt world joins alias f from positions places =
+    KeepsSame (world_of world) (joins_of (map join_view joins)) alias f (map (row_in from) places.items) (rows_at from positions)
+
+-- the same of a condition and a table, where places were found
+abbrev pub Sifts : Pinned → List Join → (alias : List ℕ) → Pred → Bor Stored → Positions → Option (Vec ℕ) → Type 0
+Sifts world joins alias p stored positions found = IfSome found (KeepsSameAt world joins alias (filter (pred_view p)) (source.Stored stored) positions)
 
 -- these are the constants, each a row of one value
 pub record AreConstants (vs : List Val) (s : Constants) : Type 0 where

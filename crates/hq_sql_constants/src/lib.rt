@@ -15,8 +15,10 @@ mod row_test;
 mod sieve;
 mod sifted;
 mod spans;
+mod worth;
 
 pub use plain::cell_in;
 pub use row_test::{RowTest, one_holds, tests_of};
 pub use sieve::{Sieve, Verdict, sieve_of, verdict_at};
-pub use sifted::{has_many, left_of, with_left};
+pub use sifted::{left_of, with_left};
+pub use worth::is_worth_finding;

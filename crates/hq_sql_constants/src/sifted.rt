@@ -5,50 +5,50 @@ ghost use Rattle.hq_load_index.specs.Indexes.{IsOver, columns_of};
 ghost use Rattle.hq_sql_constants.specs.Listed.{AsksOneOf};
 ghost use Rattle.hq_sql_constants.specs.Patterns.{AsksLike};
 ghost use Rattle.hq_sql_constants.specs.Ranged.{AsksRange};
-ghost use Rattle.hq_sql_constants.specs.Sifted.{IsLeft, KeepsSame, places_looked, with_places};
+ghost use Rattle.hq_sql_constants.specs.Sifted.{IsLeft, KeepsSameAt, Sifts, places_looked, with_places};
 ghost use Rattle.hq_sql_access.specs.Equations.{is_joined};
 ghost use Rattle.hq_sql_access.specs.Lent.{rows_lent};
-ghost use Rattle.hq_sql_access.specs.View.{row_in, world_of};
+ghost use Rattle.hq_sql_access.specs.View.{world_of};
 ghost use Rattle.hq_sql_access.specs.declared.scope.Source.TheVariants as source;
-ghost use Rattle.hq_sql_scans.specs.Positions.{rows_at};
 ghost use Rattle.hq_sql_tree.specs.Tree.{filter as filtered, joins_of};
 ghost use Rattle.hq_sql_tree.specs.View.{filter_view, join_view, pred_view};
 
-use crate::listed::{Listed, is_many, listed_in};
+use crate::listed::{Listed, listed_in};
 use crate::marked::{constants_of, index_over, marks_by, places_marked, places_with};
 use crate::patterns::{Likened, likened_in, places_like};
 use crate::ranged::{Ranged, ranged_in};
-use crate::spans::{Between, places_between, span_of};
+use crate::spans::{places_between, span_of};
+use crate::worth::{are_all, are_few, is_narrow, looks_at_all};
 use hq_base::{Memory, Txt};
 use hq_load_index::Index;
 use hq_load_tables::Rows;
 use hq_model::ColId;
-use hq_sql_access::equations::{equal_to, first_named, is_joined};
+use hq_sql_access::equations::{first_named, is_joined};
 use hq_sql_access::pinned::Pinned;
 use hq_sql_access::scope::Source;
 use hq_sql_access::stored::Stored;
 use hq_sql_scans::ordered::Looked;
-use hq_sql_scans::positions::{Positions, number_of};
-use hq_sql_tree::{Expr, Join, Pred};
+use hq_sql_scans::positions::Positions;
+use hq_sql_tree::{Join, Pred};
 use std::alloc::Global;
-
-// Of fewer places none is worth to be left out.
-const FEW: usize = 64;
-
-// More than one in so many places is not worth to be found by an index.
-const PART: usize = 4;
-
-// So many rows are found by an index before a few of them are looked for.
-const SMALL: usize = 1024;
 
 // So many constants are too many to be looked up.
 const MOST: usize = 1 << 24;
+
+/// The first column of this name.
+pub(crate) fn column_named<'d>(stored: &'d Stored<'d>, name: &Txt) -> Option<ColId>
+    ensures { IfSome result (λ column. position (λ c. bytes_eq c.name name.now) stored.now.table.now.columns ≡ Some column) }
+{
+    let at = first_named(stored.table.columns.as_slice(), name)?;
+    Some(ColId::new(at))
+}
 
 // Those of the places whose rows have one of the constants that a condition asks for, tried one by one.
 fn sifted_each<'d>(
     alloc: Global,
     stored: &'d Stored<'d>,
     rows: &Rows,
+    column: ColId,
     alias: &Txt,
     joins: &[Join],
     pred: &Pred,
@@ -59,19 +59,14 @@ fn sifted_each<'d>(
     requires joined { is_joined (joins_of (map join_view joins.now)) alias.now ≡ false }
     requires rows { rows_lent stored.now.rows ≡ rows.now }
     requires asks { AsksOneOf (world_of world.now) (pred_view pred.now) alias.now asked.name.now asked.values.items }
-    ensures { IfOk result
-        (λ found. IfSome found
-        (λ places. KeepsSame (world_of world.now) (joins_of (map join_view joins.now)) alias.now (filtered (pred_view pred.now))
-        (map (row_in (source.Stored stored.entry)) places.items) (rows_at (source.Stored stored.entry) positions.entry))) }
+    requires first { position (λ c. bytes_eq c.name asked.name.now) stored.now.table.now.columns ≡ Some column }
+    ensures { IfOk result (Sifts world.now joins.now alias.now pred.now stored.entry positions.entry) }
 {
-    let Some(at) = first_named(stored.table.columns.as_slice(), asked.name) else {
-        return Ok(None);
-    };
     if asked.values.len() >= MOST {
         return Ok(None);
     }
     let constants = constants_of(alloc, asked.values)?;
-    let places = places_with(alloc, rows, positions, ColId::new(at), &constants)?;
+    let places = places_with(alloc, rows, positions, column, &constants)?;
     Ok(Some(places))
 }
 
@@ -95,9 +90,7 @@ fn sifted_by_index<'d>(
     requires first { position (λ c. bytes_eq c.name asked.now.name.now) stored.now.table.now.columns ≡ Some column }
     requires over { IsOver rows.now index.now }
     requires columns { columns_of index.now ≡ column ∷ [] }
-    ensures { IfOk result
-        (λ places. KeepsSame (world_of world.now) (joins_of (map join_view joins.now)) alias.now (filtered (pred_view pred.now))
-        (map (row_in (source.Stored stored.entry)) places.items) (rows_at (source.Stored stored.entry) positions.entry)) }
+    ensures { IfOk result (KeepsSameAt world.now joins.now alias.now (filtered (pred_view pred.now)) (source.Stored stored.entry) positions.entry) }
 {
     let values = asked.values.as_slice();
     let marks = marks_by(alloc, rows, index, values)?;
@@ -120,15 +113,11 @@ fn sifted_by<'d>(
     requires joined { is_joined (joins_of (map join_view joins.now)) alias.now ≡ false }
     requires rows { rows_lent stored.now.rows ≡ rows.now }
     requires asks { AsksOneOf (world_of world.now) (pred_view pred.now) alias.now asked.name.now asked.values.items }
-    ensures { IfOk result
-        (λ found. IfSome found
-        (λ places. KeepsSame (world_of world.now) (joins_of (map join_view joins.now)) alias.now (filtered (pred_view pred.now))
-        (map (row_in (source.Stored stored.entry)) places.items) (rows_at (source.Stored stored.entry) positions.entry))) }
+    ensures { IfOk result (Sifts world.now joins.now alias.now pred.now stored.entry positions.entry) }
 {
-    let Some(at) = first_named(stored.table.columns.as_slice(), asked.name) else {
+    let Some(column) = column_named(stored, asked.name) else {
         return Ok(None);
     };
-    let column = ColId::new(at);
     if let Some(index) = index_over(rows, column) {
         let places = sifted_by_index(
             alloc, stored, rows, index, column, alias, joins, pred, &asked, positions, world,
@@ -136,7 +125,7 @@ fn sifted_by<'d>(
         return Ok(Some(places));
     }
     sifted_each(
-        alloc, stored, rows, alias, joins, pred, asked, positions, world,
+        alloc, stored, rows, column, alias, joins, pred, asked, positions, world,
     )
 }
 
@@ -155,15 +144,12 @@ fn sifted_like<'d>(
     requires joined { is_joined (joins_of (map join_view joins.now)) alias.now ≡ false }
     requires rows { rows_lent stored.now.rows ≡ rows.now }
     requires asks { AsksLike (pred_view pred.now) alias.now asked.name.now asked.matcher }
-    ensures { IfOk result
-        (λ found. IfSome found
-        (λ places. KeepsSame (world_of world.now) (joins_of (map join_view joins.now)) alias.now (filtered (pred_view pred.now))
-        (map (row_in (source.Stored stored.entry)) places.items) (rows_at (source.Stored stored.entry) positions.entry))) }
+    ensures { IfOk result (Sifts world.now joins.now alias.now pred.now stored.entry positions.entry) }
 {
-    let Some(at) = first_named(stored.table.columns.as_slice(), asked.name) else {
+    let Some(column) = column_named(stored, asked.name) else {
         return Ok(None);
     };
-    let places = places_like(alloc, rows, positions, ColId::new(at), &asked.matcher)?;
+    let places = places_like(alloc, rows, positions, column, &asked.matcher)?;
     Ok(Some(places))
 }
 
@@ -180,34 +166,13 @@ fn sifted_by_pattern<'d>(
 ) -> Result<Option<Vec<u32>>, Memory>
     requires joined { is_joined (joins_of (map join_view joins.now)) alias.now ≡ false }
     requires rows { rows_lent stored.now.rows ≡ rows.now }
-    ensures { IfOk result
-        (λ found. IfSome found
-        (λ places. KeepsSame (world_of world.now) (joins_of (map join_view joins.now)) alias.now (filtered (pred_view pred.now))
-        (map (row_in (source.Stored stored.entry)) places.items) (rows_at (source.Stored stored.entry) positions.entry))) }
+    ensures { IfOk result (Sifts world.now joins.now alias.now pred.now stored.entry positions.entry) }
 {
     match likened_in(alloc, pred, alias)? {
         Some(asked) => sifted_like(
             alloc, stored, rows, alias, joins, pred, asked, positions, world,
         ),
         None => Ok(None),
-    }
-}
-
-// Whether the rows between two entries are few enough beside these places. Where the scan may end before it has looked at all of
-// them, they are to be very few. Those of a key are few as they are, and in the order of an index a scan ends at its page.
-fn is_worth(span: Between, positions: Positions<'_>, whole: bool) -> bool {
-    let number = span.to.saturating_sub(span.from);
-    match positions {
-        Positions::All(all) => number <= all / PART && (whole || number <= SMALL),
-        Positions::Entries(_) | Positions::Ordered(_) | Positions::Backward(_) => false,
-    }
-}
-
-// Whether all places are there.
-fn are_all(positions: Positions<'_>) -> bool {
-    match positions {
-        Positions::All(_) => true,
-        Positions::Entries(_) | Positions::Ordered(_) | Positions::Backward(_) => false,
     }
 }
 
@@ -227,79 +192,21 @@ fn sifted_between<'d>(
     requires joined { is_joined (joins_of (map join_view joins.now)) alias.now ≡ false }
     requires rows { rows_lent stored.now.rows ≡ rows.now }
     requires asks { AsksRange (pred_view pred.now) alias.now asked.name.now asked.bounds.items }
-    ensures { IfOk result
-        (λ found. IfSome found
-        (λ places. KeepsSame (world_of world.now) (joins_of (map join_view joins.now)) alias.now (filtered (pred_view pred.now))
-        (map (row_in (source.Stored stored.entry)) places.items) (rows_at (source.Stored stored.entry) positions.entry))) }
+    ensures { IfOk result (Sifts world.now joins.now alias.now pred.now stored.entry positions.entry) }
 {
-    let Some(at) = first_named(stored.table.columns.as_slice(), asked.name) else {
+    let Some(column) = column_named(stored, asked.name) else {
         return Ok(None);
     };
-    let column = ColId::new(at);
     let Some(index) = index_over(rows, column) else {
         return Ok(None);
     };
     let bounds = asked.bounds.as_slice();
     let span = span_of(rows, index, column, bounds);
-    if !is_worth(span, positions, whole) {
+    if !is_narrow(span, positions, whole) {
         return Ok(None);
     }
     let places = places_between(alloc, rows, index, column, bounds, span, positions)?;
     Ok(Some(places))
-}
-
-// Whether the range that a column is asked to be in has few rows.
-fn has_few<'d>(stored: &'d Stored<'d>, rows: &Rows, asked: &Ranged<'_>) -> bool {
-    let Some(at) = first_named(stored.table.columns.as_slice(), asked.name) else {
-        return false;
-    };
-    let column = ColId::new(at);
-    match index_over(rows, column) {
-        Some(index) => {
-            let span = span_of(rows, index, column, asked.bounds.as_slice());
-            is_worth(span, Positions::All(rows.len()), true)
-        }
-        None => false,
-    }
-}
-
-// Whether a condition asks a column to equal another.
-fn is_link(pred: &Pred) -> bool {
-    match pred {
-        Pred::Test { test, operands, .. } => {
-            matches!(equal_to(*test, operands), Some(Expr::Column { .. }))
-        }
-        _ => false,
-    }
-}
-
-// The same of a member of an AND.
-fn has_link(pred: &Pred) -> bool {
-    match pred {
-        Pred::And(preds) => preds.as_slice().iter().any(is_link),
-        _ => is_link(pred),
-    }
-}
-
-// Whether a condition asks a column with an index to be in a range of few rows. One that asks a column to equal another is asked
-// again at each row around it, and looks at the places of a key.
-fn asks_few<'d>(
-    alloc: Global,
-    stored: &'d Stored<'d>,
-    alias: &Txt,
-    pred: &Pred,
-) -> Result<bool, Memory> {
-    let Some(rows) = stored.rows else {
-        return Ok(false);
-    };
-    if rows.len() < FEW || has_link(pred) {
-        return Ok(false);
-    }
-    let columns = stored.table.columns.as_slice();
-    match ranged_in(alloc, pred, rows, columns, alias)? {
-        Some(asked) => Ok(has_few(stored, rows, &asked)),
-        None => Ok(false),
-    }
 }
 
 // The same of a condition, where it asks a column with an index to be in a range.
@@ -316,10 +223,7 @@ fn sifted_by_range<'d>(
 ) -> Result<Option<Vec<u32>>, Memory>
     requires joined { is_joined (joins_of (map join_view joins.now)) alias.now ≡ false }
     requires rows { rows_lent stored.now.rows ≡ rows.now }
-    ensures { IfOk result
-        (λ found. IfSome found
-        (λ places. KeepsSame (world_of world.now) (joins_of (map join_view joins.now)) alias.now (filtered (pred_view pred.now))
-        (map (row_in (source.Stored stored.entry)) places.items) (rows_at (source.Stored stored.entry) positions.entry))) }
+    ensures { IfOk result (Sifts world.now joins.now alias.now pred.now stored.entry positions.entry) }
 {
     if !are_all(positions) {
         return Ok(None);
@@ -347,10 +251,7 @@ fn sifted_further<'d>(
 ) -> Result<Option<Vec<u32>>, Memory>
     requires joined { is_joined (joins_of (map join_view joins.now)) alias.now ≡ false }
     requires rows { rows_lent stored.now.rows ≡ rows.now }
-    ensures { IfOk result
-        (λ found. IfSome found
-        (λ places. KeepsSame (world_of world.now) (joins_of (map join_view joins.now)) alias.now (filtered (pred_view pred.now))
-        (map (row_in (source.Stored stored.entry)) places.items) (rows_at (source.Stored stored.entry) positions.entry))) }
+    ensures { IfOk result (Sifts world.now joins.now alias.now pred.now stored.entry positions.entry) }
 {
     match sifted_by_range(
         alloc, stored, rows, alias, joins, pred, positions, whole, world,
@@ -372,10 +273,7 @@ fn sifted_rows<'d>(
     world: &Pinned<'_>,
 ) -> Result<Option<Vec<u32>>, Memory>
     requires { is_joined (joins_of (map join_view joins.now)) alias.now ≡ false }
-    ensures { IfOk result
-        (λ found. IfSome found
-        (λ places. KeepsSame (world_of world.now) (joins_of (map join_view joins.now)) alias.now (filtered (pred_view pred.now))
-        (map (row_in (source.Stored stored.entry)) places.items) (rows_at (source.Stored stored.entry) positions.entry))) }
+    ensures { IfOk result (Sifts world.now joins.now alias.now pred.now stored.entry positions.entry) }
 {
     let Some(rows) = stored.rows else {
         return Ok(None);
@@ -402,15 +300,12 @@ fn sifted<'s, 'd>(
     whole: bool,
     world: &Pinned<'_>,
 ) -> Result<Option<Vec<u32>>, Memory>
-    ensures { IfOk result
-        (λ found. IfSome found
-        (λ places. KeepsSame (world_of world.now) (joins_of (map join_view joins.now)) alias.now (filter_view filter.now)
-        (map (row_in source.entry) places.items) (rows_at source.entry positions.entry))) }
+    ensures { IfOk result (λ found. IfSome found (KeepsSameAt world.now joins.now alias.now (filter_view filter.now) source.entry positions.entry)) }
 {
     let (Source::Stored(stored), Some(pred)) = (source, filter) else {
         return Ok(None);
     };
-    if number_of(positions) < FEW || is_joined(joins, alias) {
+    if are_few(positions) || is_joined(joins, alias) {
         return Ok(None);
     }
     sifted_rows(alloc, stored, alias, joins, pred, positions, whole, world)
@@ -427,14 +322,6 @@ fn places_looked(looked: Looked<'_>) -> Positions<'_>
     }
 }
 
-// Whether a scan looks at all its places: with LIMIT it may end before, unless what it finds is sorted.
-fn looks_at_all(looked: Looked<'_>, limit: Option<u64>) -> bool {
-    match looked {
-        Looked::Unsorted(_) => true,
-        Looked::Arranged(_) | Looked::Sorted(_) => limit.is_none(),
-    }
-}
-
 /// Those of the places at which a scan looks that WHERE may keep a row at, where it asks a column to be one of many constants, or in
 /// a range of few rows; None where all are to be tried.
 pub fn left_of<'s, 'd>(
@@ -448,9 +335,7 @@ pub fn left_of<'s, 'd>(
     world: &Pinned<'_>,
 ) -> Result<Option<Vec<u32>>, Memory>
     ensures { IfOk result
-        (λ found. IfSome found
-        (λ places. KeepsSame (world_of world.now) (joins_of (map join_view joins.now)) alias.now (filter_view filter.now)
-        (map (row_in source.entry) places.items) (rows_at source.entry (places_looked looked.entry)))) }
+        (λ found. IfSome found (KeepsSameAt world.now joins.now alias.now (filter_view filter.now) source.entry (places_looked looked.entry))) }
 {
     sifted(
         alloc,
@@ -482,32 +367,5 @@ pub fn with_left<'p>(looked: Looked<'p>, left: &'p Option<Vec<u32>>) -> Looked<'
     match left {
         None => looked,
         Some(places) => with_places(looked, Positions::Entries(places.as_slice())),
-    }
-}
-
-// Whether a condition, or a part of an AND, has many operands or conditions, or its keys are known.
-fn asks_many(filter: &Option<Pred>, world: &Pinned<'_>) -> bool {
-    match filter {
-        Some(Pred::And(preds)) => preds.as_slice().iter().any(|p| is_many(p, world)),
-        Some(pred) => is_many(pred, world),
-        None => false,
-    }
-}
-
-/// Whether it is worth to find the rows of a source that WHERE keeps before any of them is written: it asks for one of many
-/// constants, or for a range of few rows of a table. Where a range has more rows, they are written one by one, as others are.
-pub fn has_many<'s, 'd>(
-    alloc: Global,
-    source: Source<'s, 'd>,
-    alias: &Txt,
-    filter: &Option<Pred>,
-    world: &Pinned<'_>,
-) -> Result<bool, Memory> {
-    if asks_many(filter, world) {
-        return Ok(true);
-    }
-    match (source, filter) {
-        (Source::Stored(stored), Some(pred)) => asks_few(alloc, stored, alias, pred),
-        _ => Ok(false),
     }
 }

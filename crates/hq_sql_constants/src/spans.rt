@@ -3,6 +3,8 @@ ghost use Rattle.std.specs.Prelude.{◌≡◌, ◌∷◌, ◌<◌, ◌≤◌, �
 ghost use Rattle.std.specs.Ordering.{nat_cmp};
 ghost use Rattle.hq_base.specs.Lists.{sort};
 ghost use Rattle.hq_load_index.specs.Indexes.{IsOver, columns_of, counted, entries_of};
+ghost use Rattle.hq_load_index.specs.Keys.{cell_view};
+ghost use Rattle.hq_load_index.specs.Places.{IsPlace};
 ghost use Rattle.hq_sql_constants.specs.Ranged.{HaveSame, IsIn, Narrows, StandsBetween};
 ghost use Rattle.hq_sql_scans.specs.Positions.{positions_of};
 
@@ -67,20 +69,34 @@ fn up_to(span: Between, place: usize) -> Between
     }
 }
 
+// The first entry that does not stand before the constant of a comparison, and with `after` the first one behind those that are it.
+fn place_of(
+    rows: &Rows,
+    index: &Index,
+    column: ColId,
+    bound: &Bound<'_>,
+    after: bool,
+) -> usize
+    requires over { IsOver rows.now index.now }
+    requires columns { columns_of index.now ≡ column ∷ [] }
+    ensures { IsPlace (column ∷ []) rows.now (entries_of index.now) (cell_view bound.now.value ∷ []) after result }
+{
+    index.place(rows.grid(), slice::from_ref(&bound.value), after)
+}
+
 // Those of them whose rows meet a comparison.
+#[tactic(auto, using(crate::proofs::RangeEntries::narrows_gt, crate::proofs::RangeEntries::narrows_ge, crate::proofs::RangeEntries::narrows_lt, crate::proofs::RangeEntries::narrows_le))]
 fn narrowed(rows: &Rows, index: &Index, column: ColId, bound: &Bound<'_>, span: Between) -> Between
     requires over { IsOver rows.now index.now }
     requires columns { columns_of index.now ≡ column ∷ [] }
     requires ordered { span.from ≤ span.to }
     ensures { Narrows column rows.now (entries_of index.now) bound.now span result }
 {
-    let grid = rows.grid();
-    let key = slice::from_ref(&bound.value);
     match bound.op {
-        Op::Gt => from_on(span, index.place(grid, key, true)),
-        Op::Ge => from_on(span, index.place(grid, key, false)),
-        Op::Lt => up_to(span, index.place(grid, key, false)),
-        Op::Le => up_to(span, index.place(grid, key, true)),
+        Op::Gt => from_on(span, place_of(rows, index, column, bound, true)),
+        Op::Ge => from_on(span, place_of(rows, index, column, bound, false)),
+        Op::Lt => up_to(span, place_of(rows, index, column, bound, false)),
+        Op::Le => up_to(span, place_of(rows, index, column, bound, true)),
         Op::Eq | Op::Ne => span,
     }
 }

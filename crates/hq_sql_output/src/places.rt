@@ -15,7 +15,7 @@ use hq_sql_access::place::JoinedRow;
 use hq_sql_access::row::Made;
 use hq_sql_access::scope::{Scope, Source, alias_of, source_of};
 use hq_sql_access::stages::Stage;
-use hq_sql_constants::has_many;
+use hq_sql_constants::is_worth_finding;
 use hq_sql_scans::ordered::{Looked, ordered_at};
 use hq_sql_scans::positions::Positions;
 use hq_sql_select::{Piece, page, page_sorted, scan_from};
@@ -108,7 +108,7 @@ pub fn found_rows<'s, 'd>(
     let filter = rows.parts.filter;
     if rows.limit.is_some()
         || rows.offset.is_some()
-        || has_many(alloc, placed.source, placed.alias, filter, world)?
+        || is_worth_finding(alloc, placed.source, placed.alias, filter, world)?
     {
         let places = places_of(alloc, rows, placed, world, scope)?;
         return Ok(Found::Places(places));

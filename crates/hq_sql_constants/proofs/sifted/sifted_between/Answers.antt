@@ -1,6 +1,4 @@
-use Rattle.std.proofs.Common.{◌≡◌, ◌<◌, ◌∙◌, Some, map, bytes_eq, length, sym, ap, subst}
-use Rattle.std.specs.List.{position}
-use Rattle.hq_model.specs.declared.table.Column.{Column}
+use Rattle.std.proofs.Common.{◌<◌, map, length, sym, subst}
 use Rattle.hq_sql_access.specs.Lent.{rows_lent}
 use Rattle.hq_sql_access.specs.View.{world_of}
 use Rattle.hq_sql_tree.specs.Tree.{joins_of}
@@ -22,10 +20,7 @@ returns c =
     let bs = c.args.asked.bounds.items in
     let ps = positions_of c.args.positions in
     let places = c.in_ok-places.places.items in
-    let first : position (λ (k : Column). bytes_eq k.name name) columns ≡ Some c.in-Some.at =
-    ap (position (λ (k : Column). bytes_eq k.name name)) (sym c.as_slice.ensures) ∙ sym c.first_named.ensures ∙ c.in-Some.is in
-    let same : HaveSame c.in-Some.at rows bs places ps =
-    subst (λ xs. HaveSame c.in-Some.at rows xs places ps) c.as_slice-bounds.ensures.value
-    (subst (λ at. HaveSame at rows c.as_slice-bounds.result.now places ps) c.new-column.ensures c.in_ok-places.ensures) in
+    let first = rw c.in-Some.is at c.column_named.ensures in
+    let same : HaveSame c.in-Some.column rows bs places ps = subst (λ xs. HaveSame c.in-Some.column rows xs places ps) c.as_slice-bounds.ensures.value c.in_ok-places.ensures in
     ranged_at (world_of c.args.world.now) columns rows (rows_lent stored.rows) (joins_of (map join_view c.args.joins.now)) c.args.alias.now name
-    (pred_view c.args.pred.now) bs c.in-Some.at ps places c.requires.rows c.requires.asks first c.requires.joined same
+    (pred_view c.args.pred.now) bs c.in-Some.column ps places c.requires.rows c.requires.asks first c.requires.joined same
