@@ -6,3 +6,4 @@ pub mod Told
 pub mod Conjunctions
 pub mod Loops
 pub mod Verdicts
+pub mod OwnCells

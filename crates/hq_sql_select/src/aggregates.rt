@@ -95,7 +95,7 @@ fn each_json<'d>(
             row: Row::Made { cells: &row.cells },
             outer: &*scope,
         };
-        let keys = keys(alloc, order, world, &at)?;
+        let keys = keys(alloc, order, &[], &[], world, &at)?;
         let cell = value(alloc, expr, world, Group::Alone, &at)?;
         kept.push(Kept {
             keys,

@@ -5,6 +5,7 @@ mod aggregates;
 mod clauses;
 mod costs;
 mod joins;
+mod own_columns;
 mod pages;
 mod scans;
 mod truths;

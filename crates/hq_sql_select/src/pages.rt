@@ -6,15 +6,17 @@ ghost use Rattle.hq_sql_scans.specs.Pages.{Suffices};
 ghost use Rattle.hq_sql_scans.specs.Positions.{rows_at};
 ghost use Rattle.hq_sql_access.specs.View.{source_view, names_of};
 ghost use Rattle.hq_sql_select.specs.Gathered.{names_joined};
+ghost use Rattle.hq_sql_select.specs.OwnColumns.{AreCells, key_exprs};
 ghost use Rattle.hq_sql_select.specs.Selected.{Arranges, Groups, Pages, PagesFront, PagesGroups, keyed_in, scope_at};
 
+use crate::own_columns::{OwnColumns, own_columns};
 use crate::scans::scan_from;
 use crate::values::{keys, values};
-use hq_base::{Memory, Txt};
+use hq_base::{Memory, Txt, Val};
 use hq_sql_access::cells::{arranged, grouped};
 use hq_sql_access::pinned::Pinned;
 use hq_sql_access::place::{JoinedRow, with_more};
-use hq_sql_access::scope::{Scope, Source, row_at};
+use hq_sql_access::scope::{Scope, Source, row_at, stored_values};
 use hq_sql_access::stages::{Parts, Stage};
 use hq_sql_cells::{Kept, paged};
 use hq_sql_constants::{left_of, with_left};
@@ -315,14 +317,19 @@ fn keyed<'s, 'd>(
         (map expr_view distinct.now.items))
         places.entry.items) }
 {
-    let mut kept = Vec::with_capacity(alloc, places.len())?;
+    let number = places.len();
+    let mut kept = Vec::with_capacity(alloc, number)?;
+    let own = own_columns(alloc, source, alias, joins, distinct, order, number)?;
     for place in places {
+        let row = stored_values(source, place.position);
         let at = Scope::Bound {
             alias,
             row: row_at(source, place.position),
             outer: &*scope,
         };
-        kept.push(with_keys(alloc, joins, distinct, order, place, world, &at)?)?;
+        kept.push(with_keys(
+            alloc, joins, distinct, order, &own, row, place, world, &at,
+        )?)?;
     }
     Ok(kept)
 }
@@ -334,10 +341,14 @@ fn with_keys<'d>(
     joins: &'d [Join],
     distinct: &'d ExprList,
     order: &'d OrderList,
+    own: &OwnColumns,
+    row: &'d [Val],
     place: JoinedRow<'d>,
     world: &Pinned<'d>,
     scope: &Scope<'_, 'd>,
 ) -> Result<Kept<'d, JoinedRow<'d>>, Memory>
+    requires keys { AreCells (key_exprs order.now.items) own.now.keys.items row.now (names_joined joins.now place.joined.items world.now (names_of scope.now world.now)) }
+    requires distinct { AreCells (map expr_view distinct.now.items) own.now.distinct.items row.now (names_joined joins.now place.joined.items world.now (names_of scope.now world.now)) }
     ensures { IfOk result
         (λ kept. with_cells kept
         ≡ keyed_in order.now.items distinct.now.items
@@ -348,8 +359,8 @@ fn with_keys<'d>(
         rows: &place.joined,
         outer: &*scope,
     };
-    let keys = keys(alloc, order, world, &at)?;
-    let distinct = values(alloc, distinct, world, &at)?;
+    let keys = keys(alloc, order, &own.keys, row, world, &at)?;
+    let distinct = values(alloc, distinct, &own.distinct, row, world, &at)?;
     Ok(Kept {
         keys,
         distinct,

@@ -94,7 +94,7 @@ fn tested<'d>(
         let operand = value(alloc, operand, world, Group::Alone, scope)?;
         return test_truth(alloc, test, &cell, slice::from_ref(&operand));
     }
-    let operands = values(alloc, operands, world, scope)?;
+    let operands = values(alloc, operands, &[], &[], world, scope)?;
     test_truth(alloc, test, &cell, &operands)
 }
 

@@ -1,21 +1,26 @@
 //! Values of expressions.
-ghost use Rattle.std.specs.Prelude.{◌≡◌, map, IfOk};
+ghost use Rattle.std.specs.Prelude.{◌≡◌, [], map, IfOk, IfSome};
 ghost use Rattle.hq_base.specs.Json.{member_view};
+ghost use Rattle.hq_load_index.specs.Keys.{cell_in};
 ghost use Rattle.hq_sql_cells.specs.View.{cell_view};
 ghost use Rattle.hq_sql_tree.specs.View.{expr_view, pair_view, order_view};
 ghost use Rattle.hq_sql_tree.specs.Meaning.{cell_named, value};
 ghost use Rattle.hq_sql_access.specs.View.{names_of, group_of};
 ghost use Rattle.hq_sql_access.specs.Keys.{expr_values, key_values, member_at};
+ghost use Rattle.hq_sql_select.specs.OwnColumns.{AreCells, key_exprs};
 
 use crate::aggregates::taken;
 use crate::clauses::first;
-use hq_base::{Json, Member, Memory, Txt};
+use crate::own_columns::column_at;
+use hq_base::{Json, Member, Memory, Txt, Val};
+use hq_model::ColId;
 use hq_sql_access::cells::over_none;
 use hq_sql_access::pinned::Pinned;
 use hq_sql_access::resolved::{Resolved, resolve};
 use hq_sql_access::row::{cell_at, cell_taken};
 use hq_sql_access::scope::{Group, Scope};
 use hq_sql_cells::Cell;
+use hq_sql_constants::cell_in;
 use hq_sql_tree::{Expr, ExprList, ExprPairList, OrderList};
 use std::alloc::Global;
 
@@ -92,36 +97,63 @@ fn members<'d>(
     Ok(members)
 }
 
-/// The sort keys of a row, each the value of its expression.
+// The value of an expression: where it is given a column, the cell of this row in it.
+#[cycle(eval)]
+fn value_in<'d>(
+    alloc: Global,
+    expr: &'d Expr,
+    column: Option<ColId>,
+    row: &'d [Val],
+    world: &Pinned<'d>,
+    scope: &Scope<'_, 'd>,
+) -> Result<Cell<'d>, Memory>
+    requires { IfSome column (λ at. value (expr_view expr.now) [] (names_of scope.now world.now) ≡ cell_in row.now at) }
+    ensures { IfOk result (λ cell. cell_view cell ≡ value (expr_view expr.now) [] (names_of scope.now world.now)) }
+{
+    match column {
+        Some(column) => Ok(cell_in(row, column)),
+        None => value(alloc, expr, world, Group::Alone, scope),
+    }
+}
+
+/// The sort keys of a row, each the value of its expression; those that are given a column are cells of this row of FROM's table.
 #[cycle(eval)]
 pub fn keys<'d>(
     alloc: Global,
     order: &'d OrderList,
+    own: &[Option<ColId>],
+    row: &'d [Val],
     world: &Pinned<'d>,
     scope: &Scope<'_, 'd>,
 ) -> Result<Vec<Cell<'d>>, Memory>
+    requires { AreCells (key_exprs order.now.items) own.now row.now (names_of scope.now world.now) }
     ensures { IfOk result (λ keys. map cell_view keys.items ≡ key_values (map order_view order.now.items) (names_of scope.now world.now)) }
 {
     let mut keys = Vec::with_capacity(alloc, order.len())?;
-    for key in order {
-        keys.push(value(alloc, &key.value, world, Group::Alone, scope)?)?;
+    for (at, key) in order.iter().enumerate() {
+        let column = column_at(own, at);
+        keys.push(value_in(alloc, &key.value, column, row, world, scope)?)?;
     }
     Ok(keys)
 }
 
-/// The values of expressions.
+/// The values of expressions; those that are given a column are cells of this row of FROM's table.
 #[cycle(eval)]
 pub fn values<'d>(
     alloc: Global,
     exprs: &'d ExprList,
+    own: &[Option<ColId>],
+    row: &'d [Val],
     world: &Pinned<'d>,
     scope: &Scope<'_, 'd>,
 ) -> Result<Vec<Cell<'d>>, Memory>
+    requires { AreCells (map expr_view exprs.now.items) own.now row.now (names_of scope.now world.now) }
     ensures { IfOk result (λ values. map cell_view values.items ≡ expr_values (map expr_view exprs.now.items) (names_of scope.now world.now)) }
 {
     let mut values = Vec::with_capacity(alloc, exprs.len())?;
-    for expr in exprs {
-        values.push(value(alloc, expr, world, Group::Alone, scope)?)?;
+    for (at, expr) in exprs.iter().enumerate() {
+        let column = column_at(own, at);
+        values.push(value_in(alloc, expr, column, row, world, scope)?)?;
     }
     Ok(values)
 }

@@ -61,14 +61,22 @@ values::members-value-requires t c =
     let e : expr_weight c.pair-item.result.value ≤ total (map pair_weight c.args.pairs.now.items) = search (rules, pair_item) in
     omega arith
 
-pub values::keys-value-requires : goal.values::keys-value-requires
-values::keys-value-requires t c =
-    let e : expr_weight c.key-item.result.value ≤ total (map order_weight c.args.order.now.items) = search (rules, order_item) in
+pub values::keys-value_in-requires : goal.values::keys-value_in-requires
+values::keys-value_in-requires t c =
+    let inside = rw c.deref-key-items.ensures.value at c.loop-at-test.true in
+    let is = rw c.deref-key-items.ensures.value at c.key-item.is in
+    let os = c.args.order.now.items in
+    let e : expr_weight c.key-item.result.value ≤ total (map order_weight os) =
+    subst (λ o. expr_weight o.value ≤ total (map order_weight os)) (sym is) (order_item os c.loop-at.at c.key-item.result inside) in
     omega arith
 
-pub values::values-value-requires : goal.values::values-value-requires
-values::values-value-requires t c =
-    let e : expr_weight c.expr-item.result ≤ total (map expr_weight c.args.exprs.now.items) = search (rules, expr_item) in
+pub values::values-value_in-requires : goal.values::values-value_in-requires
+values::values-value_in-requires t c =
+    let inside = rw c.deref-expr-items.ensures.value at c.loop-at-test.true in
+    let is = rw c.deref-expr-items.ensures.value at c.expr-item.is in
+    let es = c.args.exprs.now.items in
+    let e : expr_weight c.expr-item.result ≤ total (map expr_weight es) =
+    subst (λ x. expr_weight x ≤ total (map expr_weight es)) (sym is) (expr_item es c.loop-at.at c.expr-item.result inside) in
     omega arith
 
 pub truths::all_true-all_true-requires : goal.truths::all_true-all_true-requires
@@ -709,26 +717,24 @@ values::members-loop-pair-preserved t c =
     (ap (map member_view) c.in_ok-push.ensures.items ∙ map-append member_view c.loop-pair.members.items (made ∷ [])
     ∙ ap (λ v. done ++ v ∷ []) (seen ∙ ap₂ (λ name j. (name, j)) c.in_ok-name.ensures (c.in_ok-into_json.ensures ∙ ap json_of c.in_ok-cell.ensures) ∙ ap (member_at g n) (sym (view_pair p))))
 
-pub values::keys-loop-key-preserved : goal.values::keys-loop-key-preserved
-values::keys-loop-key-preserved t c =
-    let items = c.deref-key-items.result.now in
-    let i = c.loop-key.key-index in
-    let within : i < length items = omega arith in
+pub values::keys-loop-at-preserved : goal.values::keys-loop-at-preserved
+values::keys-loop-at-preserved t c =
+    let inside = rw c.deref-key-items.ensures.value at c.loop-at-test.true in
+    let is = rw c.deref-key-items.ensures.value at c.key-item.is in
     let n = names_of c.args.scope.now c.args.world.now in
-    let done = map cell_view c.loop-key.keys.items in
-    map_more (λ o. value o.value [] n) order_view items i c.key-item.result done (map cell_view c.push.new.self.items) within c.key-item.is c.loop-key.invariant
-    (ap (map cell_view) c.in_ok-push.ensures.items ∙ map-append cell_view c.loop-key.keys.items _
-    ∙ ap (λ v. done ++ v ∷ []) (c.in_ok-value.ensures ∙ ap (λ e. value e [] n) (sym (view_key c.key-item.result))))
+    let done = map cell_view c.loop-at.keys.items in
+    map_more (λ o. value o.value [] n) order_view c.args.order.now.items c.loop-at.at c.key-item.result done (map cell_view c.push.new.self.items) inside is c.loop-at.invariant
+    (ap (map cell_view) c.in_ok-push.ensures.items ∙ map-append cell_view c.loop-at.keys.items _
+    ∙ ap (λ v. done ++ v ∷ []) (c.in_ok-value_in.ensures ∙ ap (λ e. value e [] n) (sym (view_key c.key-item.result))))
 
-pub values::values-loop-expr-preserved : goal.values::values-loop-expr-preserved
-values::values-loop-expr-preserved t c =
-    let items = c.deref-expr-items.result.now in
-    let i = c.loop-expr.expr-index in
-    let within : i < length items = omega arith in
+pub values::values-loop-at-preserved : goal.values::values-loop-at-preserved
+values::values-loop-at-preserved t c =
+    let inside = rw c.deref-expr-items.ensures.value at c.loop-at-test.true in
+    let is = rw c.deref-expr-items.ensures.value at c.expr-item.is in
     let n = names_of c.args.scope.now c.args.world.now in
-    let done = map cell_view c.loop-expr.values.items in
-    map_more (λ e. value e [] n) expr_view items i c.expr-item.result done (map cell_view c.push.new.self.items) within c.expr-item.is c.loop-expr.invariant
-    (ap (map cell_view) c.in_ok-push.ensures.items ∙ map-append cell_view c.loop-expr.values.items _ ∙ ap (λ v. done ++ v ∷ []) c.in_ok-value.ensures)
+    let done = map cell_view c.loop-at.values.items in
+    map_more (λ e. value e [] n) expr_view c.args.exprs.now.items c.loop-at.at c.expr-item.result done (map cell_view c.push.new.self.items) inside is c.loop-at.invariant
+    (ap (map cell_view) c.in_ok-push.ensures.items ∙ map-append cell_view c.loop-at.values.items _ ∙ ap (λ v. done ++ v ∷ []) c.in_ok-value_in.ensures)
 
 pub joins::outputs-loop-out-preserved : goal.joins::outputs-loop-out-preserved
 joins::outputs-loop-out-preserved t c =

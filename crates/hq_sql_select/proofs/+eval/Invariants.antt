@@ -27,11 +27,11 @@ invariant-values::members-loop-pair l =
     ≡ map (member_at (group_of l.group (names_of l.scope l.world)) (names_of l.scope l.world))
     (map pair_view (take l.pair-index l.pair-items))
 
-abbrev pub invariant-values::keys-loop-key : goal.invariant-values::keys-loop-key
-invariant-values::keys-loop-key l = map cell_view l.keys.items ≡ key_values (map order_view (take l.key-index l.key-items)) (names_of l.scope l.world)
+abbrev pub invariant-values::keys-loop-at : goal.invariant-values::keys-loop-at
+invariant-values::keys-loop-at l = map cell_view l.keys.items ≡ key_values (map order_view (take l.at l.order.items)) (names_of l.scope l.world)
 
-abbrev pub invariant-values::values-loop-expr : goal.invariant-values::values-loop-expr
-invariant-values::values-loop-expr l = map cell_view l.values.items ≡ expr_values (map expr_view (take l.expr-index l.expr-items)) (names_of l.scope l.world)
+abbrev pub invariant-values::values-loop-at : goal.invariant-values::values-loop-at
+invariant-values::values-loop-at l = map cell_view l.values.items ≡ expr_values (map expr_view (take l.at l.exprs.items)) (names_of l.scope l.world)
 
 abbrev pub invariant-aggregates::each_value-loop-row : goal.invariant-aggregates::each_value-loop-row
 invariant-aggregates::each_value-loop-row l =
@@ -140,11 +140,14 @@ decreases-values::value l = expr_weight l.expr.now + scope_weight l.scope.now
 abbrev pub decreases-values::members : goal.decreases-values::members
 decreases-values::members l = 1 + (total (map pair_weight l.pairs.now.items) + scope_weight l.scope.now)
 
+abbrev pub decreases-values::value_in : goal.decreases-values::value_in
+decreases-values::value_in l = 1 + (expr_weight l.expr.now + scope_weight l.scope.now)
+
 abbrev pub decreases-values::keys : goal.decreases-values::keys
-decreases-values::keys l = 1 + (total (map order_weight l.order.now.items) + scope_weight l.scope.now)
+decreases-values::keys l = 2 + (total (map order_weight l.order.now.items) + scope_weight l.scope.now)
 
 abbrev pub decreases-values::values : goal.decreases-values::values
-decreases-values::values l = 1 + (total (map expr_weight l.exprs.now.items) + scope_weight l.scope.now)
+decreases-values::values l = 2 + (total (map expr_weight l.exprs.now.items) + scope_weight l.scope.now)
 
 abbrev pub decreases-aggregates::taken : goal.decreases-aggregates::taken
 decreases-aggregates::taken l = agg_weight l.agg.now + scope_weight l.scope.now
