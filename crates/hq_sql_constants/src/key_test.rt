@@ -77,11 +77,7 @@ fn key_cell(row: &[Val], column: ColId) -> KeyCell<'_>
 
 // The key of a row in columns.
 #[tactic(auto, using(crate::proofs::KeyTests::key_more))]
-fn row_key<'r>(
-    alloc: Global,
-    row: &'r [Val],
-    columns: &[ColId],
-) -> Result<Vec<KeyCell<'r>>, Memory>
+fn row_key<'r>(alloc: Global, row: &'r [Val], columns: &[ColId]) -> Result<Vec<KeyCell<'r>>, Memory>
     ensures { IfOk result (λ key. map key_view key.items ≡ key_in columns.now row.now) }
 {
     let mut key = Vec::with_capacity(alloc, columns.len())?;

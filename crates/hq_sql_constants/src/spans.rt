@@ -70,13 +70,7 @@ fn up_to(span: Between, place: usize) -> Between
 }
 
 // The first entry that does not stand before the constant of a comparison, and with `after` the first one behind those that are it.
-fn place_of(
-    rows: &Rows,
-    index: &Index,
-    column: ColId,
-    bound: &Bound<'_>,
-    after: bool,
-) -> usize
+fn place_of(rows: &Rows, index: &Index, column: ColId, bound: &Bound<'_>, after: bool) -> usize
     requires over { IsOver rows.now index.now }
     requires columns { columns_of index.now ≡ column ∷ [] }
     ensures { IsPlace (column ∷ []) rows.now (entries_of index.now) (cell_view bound.now.value ∷ []) after result }

@@ -327,9 +327,7 @@ fn keyed<'s, 'd>(
             row: row_at(source, place.position),
             outer: &*scope,
         };
-        kept.push(with_keys(
-            alloc, joins, distinct, order, &own, row, place, world, &at,
-        )?)?;
+        kept.push(with_keys(alloc, joins, distinct, order, &own, row, place, world, &at)?)?;
     }
     Ok(kept)
 }

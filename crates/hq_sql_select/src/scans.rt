@@ -109,9 +109,7 @@ pub fn scan_from<'s, 'd>(
     let tests = &sieve;
     for turn in from..end {
         let position = position_at(positions, turn);
-        let verdict = verdict_at(
-            alloc, source, alias, joins, filter, tests, position, world,
-        )?;
+        let verdict = verdict_at(alloc, source, alias, joins, filter, tests, position, world)?;
         let at = Scope::Bound {
             alias,
             row: row_at(source, position),

@@ -46,4 +46,3 @@ returns-then-sieve c =
     let told : c.in_ok-all_hold.field-0 ≡ true = search rules in
     let holds : all_hold s.tests.items row ≡ true = ap (λ ts. all_hold ts row) (sym c.deref.ensures.value) ∙ sym c.in_ok-all_hold.ensures ∙ told in
     told_kept w columns alias js f s row _ over.1 over.0 named c.if-sieve.true holds
-
