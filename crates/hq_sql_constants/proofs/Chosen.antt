@@ -1,6 +1,7 @@
 -- Places at whose rows a column is one of constants.
 use Rattle.std.proofs.Common.{◌≡◌, ◌∙◌, ◌<◌, ◌+◌, ◌^◌, ◌≤◌, ⊎_elim, ℕ, List, [], ◌∷◌, ◌++◌, map, filter, flat_map, length, get_or, take, Bool, true, false, ◌||◌, cond, Option, None, Some, bytes_eq, refl, sym, ap, ap₂, subst, add-one, arith}
 use Rattle.std.specs.List.{list_any, position}
+use Rattle.std.specs.Borrow.{Bor}
 use Rattle.std.specs.Global.{Vec}
 use Rattle.std.specs.Prelude.{IfSome}
 use Rattle.std.proofs.Math.Seq.{take-suc}
@@ -37,6 +38,9 @@ use Rattle.hq_sql_tree.specs.Meaning.{NamedRow, Scope as Names, World, cell_name
 use Rattle.hq_sql_tree.specs.Tree as tree
 use Rattle.hq_sql_tree.specs.Tree.{JoinTrees, PredTree}
 use Rattle.hq_sql_tree.specs.View.{filter_view}
+use Rattle.hq_sql_access.specs.Lent.{rows_lent}
+use Rattle.hq_sql_access.specs.declared.scope.Source.TheVariants as source
+use Rattle.hq_sql_access.specs.declared.stored.Stored.{Stored}
 use Rattle.hq_sql_constants.specs.Listed.{AsksOneOf, is_one_of}
 use Rattle.hq_sql_constants.proofs.RangeEntries.{cells_stand}
 use Rattle.hq_model.specs.declared.op.Op.TheVariants.{Eq}
@@ -203,17 +207,6 @@ left_at w columns rows lent js alias name p good at q ps places same asked first
     alike_at w columns rows lent js alias name p good at places ps same asked first alone
     (ap (filter g) chosen ∙ filter_weaker g q (λ k e. not_out (q k) (λ out. false≢true (sym (bad k out) ∙ e))) ps)
 
--- places at whose rows a column is none of the constants that a condition asks it to be may be left out
-pub sifted_at : (w : World) (columns : List Column) (rows lent : List Row) (js : JoinTrees) (alias name : List ℕ) (p : PredTree) (vs : List Val)
-    (at : ℕ) (s : Constants) (ps places : List ℕ)
-    → lent ≡ rows → AsksOneOf w p alias name vs → position (λ c. bytes_eq c.name name) columns ≡ Some at → AreConstants vs s
-    → is_joined js alias ≡ false
-    → places ≡ filter (λ k. has_constant s (cell_in (get_or rows k []) at)) ps
-    → KeepsSame w js alias (tree.filter p) (map (λ q. get_or (map (named_row columns) lent) q []) places) (map (λ q. get_or (map (named_row columns) lent) q []) ps)
-sifted_at w columns rows lent js alias name p vs at s ps places same asked first are alone chosen =
-    left_at w columns rows lent js alias name p (is_one_of vs) at (λ k. has_constant s (cell_in (get_or rows k []) at)) ps places same asked.asks first alone
-    (λ k out. has_one vs s (get_or (get_or rows k []) at val.Null) are ∙ out) chosen
-
 -- ---- marks
 
 -- a value in a row equals another exactly where the row has that as its key
@@ -239,38 +232,54 @@ unmarked rows at vs marks k all out =
     (λ far. ap (λ row. is_one_of vs (cell_in row at)) (get_or_past rows k [] far) ∙ null_one vs)
     (cases_lt k (length rows))
 
--- places of rows that are not marked may be left out
-pub marked_at : (w : World) (columns : List Column) (rows lent : List Row) (js : JoinTrees) (alias name : List ℕ) (p : PredTree) (vs : List Val)
-    (at : ℕ) (own : List ℕ) (marks : List Bool) (ps places : List ℕ)
-    → lent ≡ rows → AsksOneOf w p alias name vs → position (λ c. bytes_eq c.name name) columns ≡ Some at → is_joined js alias ≡ false
-    → own ≡ at ∷ [] → MarksAll rows own vs marks → places ≡ filter (λ k. get_or marks k false) ps
-    → KeepsSame w js alias (tree.filter p) (map (λ q. get_or (map (named_row columns) lent) q []) places) (map (λ q. get_or (map (named_row columns) lent) q []) ps)
-marked_at w columns rows lent js alias name p vs at own marks ps places same asked first alone over all chosen =
-    left_at w columns rows lent js alias name p (is_one_of vs) at (λ k. get_or marks k false) ps places same asked.asks first alone
-    (λ k out. unmarked rows at vs marks k (subst (λ cs. MarksAll rows cs vs marks) over all) out) chosen
+-- ---- places of a table
 
--- ---- a pattern
+module _ (w : World) (js : JoinTrees) (alias name : List ℕ) (p : PredTree) (stored : Bor Stored) (positions : Positions) (rows : List Row) (at : ℕ)
+    (places : List ℕ) where
+  -- the first column of this name
+  abbrev IsFirst : Type 0
+  IsFirst = position (λ c. bytes_eq c.name name) stored.now.table.now.columns ≡ Some at
 
--- places at whose rows a column is not like the pattern that a condition asks it to be like may be left out
-pub likened_at : (w : World) (columns : List Column) (rows lent : List Row) (js : JoinTrees) (alias name : List ℕ) (p : PredTree) (m : List ℕ × Bool)
-    (at : ℕ) (ps places : List ℕ)
-    → lent ≡ rows → AsksLike p alias name m → position (λ c. bytes_eq c.name name) columns ≡ Some at → is_joined js alias ≡ false
-    → places ≡ filter (λ k. is_like m (cell_in (get_or rows k []) at)) ps
-    → KeepsSame w js alias (tree.filter p) (map (λ q. get_or (map (named_row columns) lent) q []) places) (map (λ q. get_or (map (named_row columns) lent) q []) ps)
-likened_at w columns rows lent js alias name p m at ps places same asked first alone chosen =
-    left_at w columns rows lent js alias name p (is_like m) at (λ k. is_like m (cell_in (get_or rows k []) at)) ps places same (asked.asks w) first alone
-    (λ k out. out) chosen
+  -- WHERE keeps the same at these places
+  abbrev KeepsAt : Type 0
+  KeepsAt = KeepsSame w js alias (tree.filter p) (map (row_in (source.Stored stored)) places) (rows_at (source.Stored stored) positions)
 
--- ---- a range
+  -- those at whose rows the column is not as a condition asks it to be may be left out
+  left_of_table : (good : CellTree → Bool) (q : ℕ → Bool) → rows_lent stored.now.rows ≡ rows
+      → ((m : Names) → truth_at p w m ≡ Yes → good (cell_named (m alias) name) ≡ true) → IsFirst → is_joined js alias ≡ false
+      → ((k : ℕ) → q k ≡ false → good (cell_in (get_or rows k []) at) ≡ false) → places ≡ filter q (positions_of positions) → KeepsAt
+  left_of_table good q =
+      left_at w stored.now.table.now.columns rows (rows_lent stored.now.rows) js alias name p good at q (positions_of positions) places
 
--- places with the same of the rows whose column meets the comparisons that a condition asks for may stand in place of others
-pub ranged_at : (w : World) (columns : List Column) (rows lent : List Row) (js : JoinTrees) (alias name : List ℕ) (p : PredTree) (bs : List Bound)
-    (at : ℕ) (ps places : List ℕ)
-    → lent ≡ rows → AsksRange p alias name bs → position (λ c. bytes_eq c.name name) columns ≡ Some at → is_joined js alias ≡ false
-    → HaveSame at rows bs places ps
-    → KeepsSame w js alias (tree.filter p) (map (λ q. get_or (map (named_row columns) lent) q []) places) (map (λ q. get_or (map (named_row columns) lent) q []) ps)
-ranged_at w columns rows lent js alias name p bs at ps places same asked first alone alike =
-    alike_at w columns rows lent js alias name p (meets_all bs) at places ps same (asked.all.asks w) first alone alike
+  -- where it is none of the constants that the condition asks it to be one of
+  pub sifted_at : (vs : List Val) (s : Constants) → rows_lent stored.now.rows ≡ rows → AsksOneOf w p alias name vs → IsFirst → AreConstants vs s
+      → is_joined js alias ≡ false → places ≡ filter (λ k. has_constant s (cell_in (get_or rows k []) at)) (positions_of positions) → KeepsAt
+  sifted_at vs s same asked first are alone =
+      left_of_table (is_one_of vs) (λ k. has_constant s (cell_in (get_or rows k []) at)) same asked.asks first alone
+      (λ k out. has_one vs s (get_or (get_or rows k []) at val.Null) are ∙ out)
+
+  -- where the row is not marked
+  pub marked_at : (vs : List Val) (own : List ℕ) (marks : List Bool) → rows_lent stored.now.rows ≡ rows → AsksOneOf w p alias name vs → IsFirst
+      → is_joined js alias ≡ false → own ≡ at ∷ [] → MarksAll rows own vs marks
+      → places ≡ filter (λ k. get_or marks k false) (positions_of positions) → KeepsAt
+  marked_at vs own marks same asked first alone over all =
+      left_of_table (is_one_of vs) (λ k. get_or marks k false) same asked.asks first alone
+      (λ k out. unmarked rows at vs marks k (subst (λ cs. MarksAll rows cs vs marks) over all) out)
+
+  -- where it is not like the pattern that the condition asks it to be like
+  pub likened_at : (m : List ℕ × Bool) → rows_lent stored.now.rows ≡ rows → AsksLike p alias name m → IsFirst → is_joined js alias ≡ false
+      → places ≡ filter (λ k. is_like m (cell_in (get_or rows k []) at)) (positions_of positions) → KeepsAt
+  likened_at m same asked first alone =
+      left_of_table (is_like m) (λ k. is_like m (cell_in (get_or rows k []) at)) same (asked.asks w) first alone (λ k out. out)
+
+  -- places with the same of the rows whose column meets the comparisons that the condition asks for may stand in their place
+  pub ranged_at : (bs : List Bound) → rows_lent stored.now.rows ≡ rows → AsksRange p alias name bs → IsFirst → is_joined js alias ≡ false
+      → HaveSame at rows bs places (positions_of positions) → KeepsAt
+  ranged_at bs same asked first alone alike =
+      alike_at w stored.now.table.now.columns rows (rows_lent stored.now.rows) js alias name p (meets_all bs) at places (positions_of positions)
+      same (asked.all.asks w) first alone alike
+
+-- ---- what a scan finds
 
 -- what a scan finds, it finds over these tables
 finds_over : (w : World) (js : JoinTrees) (scope : Scope) (alias : List ℕ) (parts : Parts) (source : Source) (looked : Looked)

@@ -1,5 +1,5 @@
 -- The entries of an index over one column whose rows meet comparisons stand between two places.
-use Rattle.std.proofs.Common.{◌≡◌, ◌∙◌, ◌<◌, ◌≤◌, ◌+◌, ◌-◌, ⊎_elim, ℕ, zero, suc, List, [], ◌∷◌, ◌++◌, filter, length, get_or, map, take, drop, Bool, true, false, not, ◌&&◌, ◌||◌, cond, Option, None, Some, Ordering, Less, Equal, Greater, is_gt, is_lt, is_ge, is_le, refl, sym, ap, ap₂, subst, add-one, arith}
+use Rattle.std.proofs.Common.{◌≡◌, ◌∙◌, ◌<◌, ◌≤◌, ◌+◌, ◌-◌, ⊎_elim, ℕ, zero, suc, List, [], ◌∷◌, ◌++◌, filter, length, get_or, take, drop, Bool, true, false, not, ◌&&◌, ◌||◌, cond, Option, None, Some, Ordering, Less, Equal, Greater, is_gt, is_lt, is_ge, is_le, refl, sym, ap, ap₂, subst, add-one, arith}
 use Rattle.std.specs.Prelude.{◌==◌}
 use Rattle.std.specs.List.{list_any}
 use Rattle.std.specs.Ordering.{nat_cmp}
