@@ -12,7 +12,7 @@ loop-position-preserved c =
     let i = c.loop-position.position in
     let lt : i < length before = omega (arith, c.loop-position-test.true) in
     rows_step f rows before c.loop-position.truths.items _ i c.in_ok-holds_too.field-0 c.requires lt c.loop-position.invariant
-    (c.in_ok-holds_too.ensures ∙ ap (λ r. get_or before i false && f r) c.row.ensures) c.in_ok-push.ensures.items
+    (c.in_ok-holds_too.ensures ∙ ap (λ r. get_or before i false && f r) c.row-row.ensures) c.in_ok-push.ensures.items
 
 pub returns : goal.returns
 returns c =
