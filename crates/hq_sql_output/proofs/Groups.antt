@@ -6,9 +6,12 @@ use Rattle.hq_sql_tree.specs.View.{out_view, select_view, join_view}
 use Rattle.hq_sql_tree.specs.Meaning.{Scope as Names, World, cell_named, outputs, rows_of, value, with_alias}
 use Rattle.hq_sql_tree.specs.declared.select.Out.{Out}
 use Rattle.hq_sql_tree.specs.declared.select.Select.{Select}
+use Rattle.hq_sql_access.proofs.Asked.{column_value}
+use Rattle.hq_sql_access.specs.Equations.{is_column}
 use Rattle.hq_sql_access.specs.View.{beside, joined_view, row_in}
 use Rattle.hq_sql_access.specs.declared.place.JoinedRow.{JoinedRow}
 use Rattle.hq_sql_output.specs.Grouped.{IsColumn, group_in}
+use Rattle.hq_sql_output.specs.Listed.{IsOutput}
 use Rattle.hq_sql_output.specs.Placed.{names_in}
 use Rattle.hq_sql_output.specs.Selected.{scopes_in}
 use Rattle.hq_sql_output.specs.declared.grouped.Grouped.{Grouped}
@@ -17,6 +20,11 @@ use Rattle.hq_sql_output.specs.declared.listed.Rows.{Rows}
 -- a text is itself
 pub same : (a : List ℕ) → bytes_eq a a ≡ true
 same a = (bytes_eq-Decides a a).1 refl
+
+-- a column of FROM among the outputs
+pub column_over : (g : Grouped) (x e : ExprTree) (name : List ℕ) → g.placed.joins.now ≡ [] → IsOutput g.alias.now (map out_view g.outs.now) x e
+    → is_column g.placed.alias.now name e ≡ true → IsColumn x g name
+column_over g x e name alone output own = record { alone = alone; value = λ outer names. output outer names ∙ column_value g.placed.alias.now name e names own }
 
 module _ (g : Grouped) (w : World) (n : Names) (e : ExprTree) (name : List ℕ) (h : IsColumn e g name) where
   -- the row of FROM at a place

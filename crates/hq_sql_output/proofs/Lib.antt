@@ -4,4 +4,4 @@ pub mod Objects
 pub mod Pieces
 pub mod Groups
 pub mod TableCells
-pub mod PlainTexts
+pub mod ElementTexts

@@ -22,10 +22,6 @@ group_at g world scope = group_in g (world_of world) (names_of scope world)
 abbrev pub AreRows : Grouped → Select → World → Names → Type 0
 AreRows g select world names = group_in g world names ≡ map (with_alias names g.alias.now) (rows_of (select_view select) world names)
 
--- an expression is this column of an alias, in each scope
-abbrev pub IsColumnOf : ExprTree → (alias name : List ℕ) → Type 0
-IsColumnOf e alias name = (names : Names) → value e [] names ≡ cell_named (names alias) name
-
 -- an expression over the rows is this column of their FROM, beside which no join stands
 pub record IsColumn (e : ExprTree) (g : Grouped) (name : List ℕ) : Type 0 where
   pub alone : g.placed.joins.now ≡ []

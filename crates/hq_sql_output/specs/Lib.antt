@@ -4,4 +4,4 @@ pub mod Selected
 pub mod Texts
 pub mod Listed
 pub mod TableRows
-pub mod PlainRows
+pub mod Elements

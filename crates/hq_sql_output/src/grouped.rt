@@ -5,7 +5,7 @@ ghost use Rattle.hq_sql_cells.specs.View.{cell_view};
 ghost use Rattle.hq_sql_tree.specs.Meaning.{cell_named, taken, value};
 ghost use Rattle.hq_sql_tree.specs.View.{agg_view, expr_view, pair_view};
 ghost use Rattle.hq_sql_access.specs.View.{names_of, row_in, world_of};
-ghost use Rattle.hq_sql_output.specs.Grouped.{AreRows, IsColumn, IsColumnOf, group_at};
+ghost use Rattle.hq_sql_output.specs.Grouped.{AreRows, IsColumn, group_at};
 ghost use Rattle.hq_sql_output.specs.TableRows.{values_at};
 ghost use Rattle.hq_sql_output.specs.Texts.{grouped_text, lent_fold, pairs_text};
 
@@ -22,6 +22,7 @@ use hq_sql_access::scope::{Group, Scope, Source, alias_of, row_at};
 use hq_sql_access::stages::stages;
 use hq_sql_cells::{Cell, aggregated, counted};
 use hq_sql_constants::cell_in;
+use hq_sql_scans::links::own_name;
 use hq_sql_select::{made_of, rows, value};
 use hq_sql_tree::{Agg, Expr, ExprPairList, Out, Select};
 use std::alloc::Global;
@@ -86,21 +87,8 @@ fn cells_of<'d>(
     }
 }
 
-/// The name of a column of an alias.
-pub fn column_of<'d>(expr: &'d Expr, alias: &Txt) -> Option<&'d Txt>
-    ensures { IfSome result (λ name. IsColumnOf (expr_view expr.now) alias.now name.now) }
-{
-    match expr {
-        Expr::Column {
-            alias: of,
-            name,
-            ..
-        } => { if *of == *alias { Some(name) } else { None } }
-        _ => None,
-    }
-}
-
 // The name of the column of FROM that an expression over the rows stands for, where no join stands beside FROM.
+#[tactic(auto, using(crate::proofs::Groups::column_over))]
 fn column_in<'d>(expr: &Expr, group: &Grouped<'_, 'd>) -> Option<&'d Txt>
     ensures { IfSome result (λ name. IsColumn (expr_view expr.now) group.now name.now) }
 {
@@ -108,7 +96,7 @@ fn column_in<'d>(expr: &Expr, group: &Grouped<'_, 'd>) -> Option<&'d Txt>
         return None;
     }
     let element = output_of(expr, group.alias, group.outs)?;
-    column_of(element, group.placed.alias)
+    own_name(element, group.placed.alias)
 }
 
 // The values of an expression over the rows, where it is a column of FROM.
@@ -160,7 +148,7 @@ fn taken_at<'d>(
 // Whether an expression over the rows is a column of FROM.
 fn is_column(expr: &Expr, alias: &Txt, outs: &[Out], from: &Txt) -> bool {
     match output_of(expr, alias, outs) {
-        Some(element) => column_of(element, from).is_some(),
+        Some(element) => own_name(element, from).is_some(),
         None => false,
     }
 }

@@ -2,11 +2,11 @@
 //! written as it is read.
 #![tactic(auto)]
 
+mod elements;
 mod grouped;
 mod listed;
 mod parts;
 mod places;
-mod plain_rows;
 mod statement;
 mod table_rows;
 mod written;

@@ -1,6 +1,6 @@
 //! Aggregates that list one output of rows that stand in order already.
 ghost use Rattle.std.specs.Prelude.{◌≡◌, [], ◌+◌, ◌≤◌, true, map, Some, IfSome, option_map};
-ghost use Rattle.hq_sql_conjuncts.specs.Weight.{total, expr_weight, out_weight, select_weight};
+ghost use Rattle.hq_sql_conjuncts.specs.Weight.{total, expr_weight, out_weight, pair_weight, select_weight};
 ghost use Rattle.hq_sql_tree.specs.Meaning.{Scope as Names, World, outputs, rows_of};
 ghost use Rattle.hq_sql_tree.specs.Tree.{object, pairs_of};
 ghost use Rattle.hq_sql_output.specs.Selected.{scopes_in};
@@ -44,7 +44,8 @@ pub fn output_named<'d>(outs: &'d [Out], name: &Txt) -> Option<&'d Expr>
 
 /// The pairs of an object.
 pub fn pairs_in<'d>(expr: &'d Expr) -> Option<&'d ExprPairList>
-    ensures { IfSome result (λ pairs. expr_view expr.now ≡ object (pairs_of (map pair_view pairs.now.items))) }
+    ensures value { IfSome result (λ pairs. expr_view expr.now ≡ object (pairs_of (map pair_view pairs.now.items))) }
+    ensures weight { IfSome result (λ pairs. expr_weight expr.now ≡ 2 + total (map pair_weight pairs.now.items)) }
 {
     match expr {
         Expr::Object(pairs) => Some(pairs),

@@ -8,6 +8,7 @@ ghost use Rattle.hq_sql_output.specs.Placed.{names_there};
 ghost use Rattle.hq_sql_output.specs.Selected.{scopes_in};
 ghost use Rattle.hq_sql_output.specs.Texts.{IsFirstObject, named_pair};
 
+use crate::elements::Element;
 use crate::listed::{Rows, object_named};
 use crate::places::{Placed, placed_rows, places_of};
 use crate::written::write_place;
@@ -46,7 +47,15 @@ fn members_at<'d>(
     for pair in pairs {
         let name = pair.name.copy(alloc)?;
         let mut text = Bytes::new(alloc);
-        write_place(alloc, &pair.value, placed, place, world, scope, &mut text)?;
+        write_place(
+            alloc,
+            Element::Whole(&pair.value),
+            placed,
+            place,
+            world,
+            scope,
+            &mut text,
+        )?;
         members.push(AnswerMember { name, text })?;
     }
     Ok(members)

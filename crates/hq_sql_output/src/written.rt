@@ -4,24 +4,26 @@ ghost use Rattle.hq_sql_tree.specs.View.{expr_view, pair_view, select_view};
 ghost use Rattle.hq_sql_tree.specs.Meaning.{rows_of};
 ghost use Rattle.hq_sql_access.specs.View.{first_row, world_of, names_of};
 ghost use Rattle.hq_sql_select.specs.Gathered.{names_joined};
+ghost use Rattle.hq_sql_output.specs.Elements.{content_text, element_text, row_text, text_at};
 ghost use Rattle.hq_sql_output.specs.Placed.{names_there, found_in};
 ghost use Rattle.hq_sql_output.specs.Selected.{page_at, scopes_in};
 ghost use Rattle.hq_sql_output.specs.Texts.{cell_text, text_of, pairs_text, texts_of, more_texts, first_text, wanted_text, lent_fold};
 
+use crate::elements::{Content, Element, TableObject, element_of, table_object};
 use crate::grouped::write_fold;
 use crate::listed::{Listed, Rows, list_of, output_named};
 use crate::parts::{put_cell, put_separator};
 use crate::places::{
     Found, Placed, Wanted, found_rows, has_begun, placed_rows, places_of, stretch,
 };
-use crate::plain_rows::{plain_rows, write_plain};
-use hq_base::{Bytes, Memory, Txt, put_quoted};
+use hq_base::{Bytes, Memory, Txt, Val, put_quoted};
 use hq_sql_access::pinned::Pinned;
 use hq_sql_access::place::JoinedRow;
 use hq_sql_access::resolved::{Resolved, resolve};
 use hq_sql_access::row::{Made, cell_at};
 use hq_sql_access::scope::{Group, Scope, row_at};
 use hq_sql_access::stages::{Parts, has_due, stages};
+use hq_sql_constants::cell_in;
 use hq_sql_scans::positions::{Positions, number_of};
 use hq_sql_select::{made_of, value, with_due};
 use hq_sql_tree::{Expr, ExprPairList, Join, Pred, Select};
@@ -211,7 +213,17 @@ fn write_first<'d>(
 {
     let places = places_of(alloc, rows, &*placed, world, &*scope)?;
     match places.first() {
-        Some(place) => write_place(alloc, expr, placed, place, world, scope, out),
+        Some(place) => {
+            write_place(
+                alloc,
+                Element::Whole(expr),
+                placed,
+                place,
+                world,
+                scope,
+                out,
+            )
+        }
         None => out.append(b"null"),
     }
 }
@@ -266,8 +278,7 @@ fn write_found<'d>(
     Ok(())
 }
 
-// An expression at each of these places, with commas between, and one before them where something was written already. Many
-// objects of columns of a table are written without a scope.
+// An expression at each of these places, with commas between, and one before them where something was written already.
 #[cycle(write)]
 fn write_each<'d>(
     alloc: Global,
@@ -281,74 +292,159 @@ fn write_each<'d>(
 ) -> Result<(), Memory>
     ensures { OnOk result (out.new ≡ out.old ++ more_texts begun (map (text_of (expr_view expr.now)) (map (names_there placed.now world.now scope.now) places.now))) }
 {
-    if let Some(plain) = plain_rows(alloc, expr, placed, places.len())? {
-        return write_plain(alloc, &plain, places, begun, out);
+    match table_object(alloc, expr, placed, places.len())? {
+        Some(object) => {
+            let element = element_of(&object);
+            write_elements(alloc, element, placed, places, begun, world, scope, out)
+        }
+        None => {
+            let element = Element::Whole(expr);
+            write_elements(alloc, element, placed, places, begun, world, scope, out)
+        }
     }
+}
+
+// The same of what is written at each of them.
+#[cycle(write)]
+fn write_elements<'d>(
+    alloc: Global,
+    element: Element<'_, 'd>,
+    placed: &Placed<'_, 'd>,
+    places: &[JoinedRow<'d>],
+    begun: bool,
+    world: &Pinned<'d>,
+    scope: &Scope<'_, 'd>,
+    out: &mut Bytes,
+) -> Result<(), Memory>
+    ensures { OnOk result (out.new ≡ out.old ++ more_texts begun (map (text_at element.entry placed.now world.now scope.now) places.now)) }
+{
     for (at, place) in places.iter().enumerate() {
         put_separator(out, begun, at)?;
-        write_place(alloc, expr, placed, place, world, scope, out)?;
+        write_place(alloc, element, placed, place, world, scope, out)?;
     }
     Ok(())
 }
 
-/// The JSON of an expression at a place.
+/// What is written at a place.
 #[cycle(write)]
 pub fn write_place<'d>(
     alloc: Global,
-    expr: &'d Expr,
+    element: Element<'_, 'd>,
     placed: &Placed<'_, 'd>,
     place: &JoinedRow<'d>,
     world: &Pinned<'d>,
     scope: &Scope<'_, 'd>,
     out: &mut Bytes,
 ) -> Result<(), Memory>
-    ensures { OnOk result (out.new ≡ out.old ++ text_of (expr_view expr.now) (names_there placed.now world.now scope.now place.now)) }
+    ensures { OnOk result (out.new ≡ out.old ++ text_at element.entry placed.now world.now scope.now place.now) }
 {
+    if let Element::Plain(object) = element {
+        return write_object(alloc, object, place.position, world, &Scope::Nothing, out);
+    }
     let at = Scope::Bound {
         alias: placed.alias,
         row: row_at(placed.source, place.position),
         outer: &*scope,
     };
-    write_at(alloc, expr, placed, &place.joined, world, &at, out)
+    write_at(alloc, element, placed, place, world, &at, out)
 }
 
-// An expression at the row with these rows of the joins.
+// The same where the row is in scope.
 #[cycle(write)]
 fn write_at<'d>(
     alloc: Global,
-    expr: &'d Expr,
+    element: Element<'_, 'd>,
     placed: &Placed<'_, 'd>,
-    joined: &[Option<Made<'d>>],
+    place: &JoinedRow<'d>,
     world: &Pinned<'d>,
     scope: &Scope<'_, 'd>,
     out: &mut Bytes,
 ) -> Result<(), Memory>
-    ensures { OnOk result (out.new ≡ out.old ++ text_of (expr_view expr.now) (names_joined placed.now.joins.now joined.now world.now (names_of scope.now world.now))) }
+    ensures { OnOk result (out.new ≡ out.old ++ element_text element.entry place.now.position (names_joined placed.now.joins.now place.now.joined.items world.now (names_of scope.now world.now))) }
 {
+    let position = place.position;
+    let joins = placed.joins;
     if has_due(placed.stages) {
-        let all = with_due(alloc, placed.joins, placed.stages, joined, world, scope)?;
-        return write_beside(alloc, expr, placed.joins, &all, world, scope, out);
+        let all = with_due(alloc, joins, placed.stages, &place.joined, world, scope)?;
+        return write_beside(alloc, element, position, joins, &all, world, scope, out);
     }
-    write_beside(alloc, expr, placed.joins, joined, world, scope, out)
+    write_beside(
+        alloc,
+        element,
+        position,
+        joins,
+        &place.joined,
+        world,
+        scope,
+        out,
+    )
 }
 
 // The same where all joins are evaluated that are to be before the outputs.
 #[cycle(write)]
 fn write_beside<'d>(
     alloc: Global,
-    expr: &'d Expr,
+    element: Element<'_, 'd>,
+    position: usize,
     joins: &'d [Join],
     joined: &[Option<Made<'d>>],
     world: &Pinned<'d>,
     scope: &Scope<'_, 'd>,
     out: &mut Bytes,
 ) -> Result<(), Memory>
-    ensures { OnOk result (out.new ≡ out.old ++ text_of (expr_view expr.now) (names_joined joins.now joined.now world.now (names_of scope.now world.now))) }
+    ensures { OnOk result (out.new ≡ out.old ++ element_text element.entry position (names_joined joins.now joined.now world.now (names_of scope.now world.now))) }
 {
     let at = Scope::Joined {
         joins,
         rows: joined,
         outer: &*scope,
     };
-    write_value(alloc, expr, world, &at, out)
+    match element {
+        Element::Whole(expr) => write_value(alloc, expr, world, &at, out),
+        Element::Plain(object) => {
+            write_object(alloc, object, position, world, &Scope::Nothing, out)
+        }
+        Element::Object(object) => write_object(alloc, object, position, world, &at, out),
+    }
+}
+
+// An object at a row of its table.
+#[cycle(write)]
+fn write_object<'d>(
+    alloc: Global,
+    object: &TableObject<'d>,
+    position: usize,
+    world: &Pinned<'d>,
+    scope: &Scope<'_, 'd>,
+    out: &mut Bytes,
+) -> Result<(), Memory>
+    ensures { OnOk result (out.new ≡ out.old ++ row_text object.now position (names_of scope.now world.now)) }
+{
+    let values = object.table.rows.row(position);
+    out.push(b'{')?;
+    for (at, member) in object.members.iter().enumerate() {
+        put_separator(out, false, at)?;
+        out.append(member.head.as_slice())?;
+        write_content(alloc, &member.content, values, world, scope, out)?;
+    }
+    out.push(b'}')
+}
+
+// The value of a member.
+#[cycle(write)]
+fn write_content<'d>(
+    alloc: Global,
+    content: &Content<'d>,
+    row: &[Val],
+    world: &Pinned<'d>,
+    scope: &Scope<'_, 'd>,
+    out: &mut Bytes,
+) -> Result<(), Memory>
+    ensures { OnOk result (out.new ≡ out.old ++ content_text content.now row.now (names_of scope.now world.now)) }
+{
+    match content {
+        Content::Column(column) => put_cell(alloc, out, &cell_in(row, *column)),
+        Content::Constant(text) => out.append(text.as_slice()),
+        Content::Other(expr) => write_value(alloc, expr, world, scope, out),
+    }
 }

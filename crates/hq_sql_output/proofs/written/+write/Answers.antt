@@ -1,24 +1,25 @@
-use Rattle.std.proofs.Common.{rules, ◌≡◌, ◌≤◌, ◌+◌, ◌∷◌, ◌++◌, ◌||◌, [], None, Some, IfSome, OnOk, codes, false, map, take, subst, ap, ◌∙◌, sym, arith}
+use Rattle.std.proofs.Common.{rules, ◌≡◌, ◌≤◌, ◌+◌, ◌∷◌, ◌++◌, ◌||◌, [], None, Some, IfSome, OnOk, codes, false, map, take, subst, append_assoc, ap, ap₂, ◌∙◌, sym, arith}
 use Rattle.std.specs.List.{join_with_byte}
 use Rattle.hq_base.proofs.Lists.{map_map}
 use Rattle.hq_base.specs.Compact.{quoted}
 use Rattle.hq_sql_conjuncts.specs.Weight.{total, expr_weight, pair_weight}
-use Rattle.hq_sql_conjuncts.proofs.Weights.{pair_item}
+use Rattle.hq_sql_conjuncts.proofs.Weights.{item_weight, pair_item}
 use Rattle.hq_sql_tree.specs.declared.expr.Expr.{the_lemmas as expr_lemmas}
 use Rattle.hq_sql_tree.specs.declared.select.Select.{the_lemmas as select_lemmas}
 use Rattle.hq_sql_tree.specs.Tree.{object, pairs_of, joins_of, rows}
 use Rattle.hq_sql_tree.specs.View.{expr_view, out_view, pair_view, order_view, select_view, from_view, join_view, filter_view}
 use Rattle.hq_sql_tree.specs.Meaning.{rows_of, scopes_of}
 use Rattle.hq_sql_access.specs.View.{first_row, world_of, names_of}
+use Rattle.hq_sql_output.specs.Elements.{IsObject, content_text, content_weight, member_text, member_weight, text_at}
 use Rattle.hq_sql_output.specs.Listed.{output_in}
 use Rattle.hq_sql_output.specs.Placed.{names_in, found_before}
-use Rattle.hq_sql_output.specs.PlainRows.{IsPlain}
 use Rattle.hq_sql_output.specs.Selected.{page_of}
+use Rattle.hq_sql_output.specs.TableRows.{values_at}
 use Rattle.hq_sql_output.specs.Texts.{cell_text, more_texts, text_of, pair_text, pairs_text}
 use Rattle.hq_sql_output.proofs.Objects.{named_part, pairs_are, braced, pair_is}
 use Rattle.hq_sql_output.proofs.Outputs.{first_output, no_output}
 use Rattle.hq_sql_output.proofs.Pieces.{has_image, begun_more, one_more, stretched}
-use Rattle.hq_sql_output.proofs.PlainTexts.{plain_texts}
+use Rattle.hq_sql_output.proofs.ElementTexts.{element_texts}
 use Rattle.hq_sql_output.proofs.written.+write.Goals as goal
 
 -- ---- objects
@@ -61,24 +62,53 @@ write_pairs-loop-at-preserved t c =
 
 -- ---- rows
 
-pub write_each-loop-at-preserved : goal.write_each-loop-at-preserved
-write_each-loop-at-preserved t c =
-    let T = text_of (expr_view c.args.expr.now) in
-    let N = names_in c.args.placed.now (world_of c.args.world.now) (names_of c.args.scope.now c.args.world.now) in
-    let xs = c.args.places.now in
-    rw (map_map T N (take (c.loop-at.at + 1) xs))
-    (one_more (λ p. T (N p)) c.args.begun xs c.loop-at.at c.index-places-at.result c.args.out.now c.loop-at.out c.put_separator.new.out c.write_place.new.out c.loop-at-test.true c.index-places-at.is
-    (rw (← (map_map T N (take c.loop-at.at xs))) c.loop-at.invariant) c.in_ok-put_separator.ensures c.in_ok-write_place.ensures)
+pub write_elements-loop-at-preserved : goal.write_elements-loop-at-preserved
+write_elements-loop-at-preserved t c =
+    one_more (text_at c.args.element c.args.placed.now c.args.world.now c.args.scope.now) c.args.begun c.args.places.now c.loop-at.at c.index-places-at.result c.args.out.now c.loop-at.out
+    c.put_separator.new.out c.write_place.new.out c.loop-at-test.true c.index-places-at.is c.loop-at.invariant c.in_ok-put_separator.ensures c.in_ok-write_place.ensures
 
 pub write_each-returns-in-Some : goal.write_each-returns-in-Some
 write_each-returns-in-Some t c =
     let w = world_of c.args.world.now in
     let n = names_of c.args.scope.now c.args.world.now in
     let e = expr_view c.args.expr.now in
-    let plain = c.in-Some.plain in
-    let is : IsPlain e c.args.placed.now plain = subst (λ o. IfSome o (IsPlain e c.args.placed.now)) c.in-Some.is c.in_ok-plain.ensures in
-    subst (λ ts. OnOk c.write_plain.result (c.write_plain.new.out ≡ c.args.out.now ++ more_texts c.args.begun ts))
-    (plain_texts e c.args.placed.now plain w n c.args.places.now is) c.write_plain.ensures
+    let placed = c.args.placed.now in
+    let is : IsObject e placed c.in-Some.object = subst (λ o. IfSome o (IsObject e placed)) c.in-Some.is c.in_ok-object.ensures.text in
+    subst (λ ts. OnOk c.write_elements.result (c.write_elements.new.out ≡ c.args.out.now ++ more_texts c.args.begun ts))
+    (element_texts e placed c.in-Some.object c.element_of-element.result w n c.args.places.now is c.element_of-element.ensures.text) c.write_elements.ensures
+
+pub write_each-returns-in-None : goal.write_each-returns-in-None
+write_each-returns-in-None t c =
+    let T = text_of (expr_view c.args.expr.now) in
+    let N = names_in c.args.placed.now (world_of c.args.world.now) (names_of c.args.scope.now c.args.world.now) in
+    subst (λ ts. OnOk c.write_elements-in-None.result (c.write_elements-in-None.new.out ≡ c.args.out.now ++ more_texts c.args.begun ts))
+    (sym (map_map T N c.args.places.now)) c.write_elements-in-None.ensures
+
+-- ---- objects at the rows of a table
+
+pub write_object-write_content-requires : goal.write_object-write_content-requires
+write_object-write_content-requires t c =
+    let inside = rw c.deref-member-items.ensures.value at c.loop-at-test.true in
+    let is = rw c.deref-member-items.ensures.value at c.member-item.is in
+    let ms = c.args.object.now.members.items in
+    let e : content_weight c.member-item.result.content ≤ total (map member_weight ms) =
+    subst (λ m. member_weight m ≤ total (map member_weight ms)) (sym is) (item_weight member_weight ms c.loop-at.at c.member-item.result inside) in
+    omega arith
+
+pub write_object-loop-at-preserved : goal.write_object-loop-at-preserved
+write_object-loop-at-preserved t c =
+    let inside = rw c.deref-member-items.ensures.value at c.loop-at-test.true in
+    let is = rw c.deref-member-items.ensures.value at c.member-item.is in
+    let n = names_of c.args.scope.now c.args.world.now in
+    let row = values_at c.args.object.now.table c.args.position in
+    let m = c.member-item.result in
+    let comma = c.put_separator.new.out in
+    let text : c.write_content.new.out ≡ comma ++ member_text row n m =
+    c.in_ok-write_content.ensures
+    ∙ ap₂ (λ before r. before ++ content_text m.content r n) (c.in_ok-append.ensures.ok ∙ ap (λ head. comma ++ head) c.as_slice.ensures) c.row-values.ensures
+    ∙ append_assoc comma m.head (content_text m.content row n) in
+    one_more (member_text row n) false c.args.object.now.members.items c.loop-at.at m _ c.loop-at.out comma c.write_content.new.out
+    inside is c.loop-at.invariant c.in_ok-put_separator.ensures text
 
 -- ---- outputs of a select
 
