@@ -18,6 +18,7 @@ use hq_sql_scans::links::own_column;
 use hq_sql_tree::{Expr, Pred};
 use std::alloc::Global;
 use std::cell::Cell;
+use std::slice;
 
 /// The keys that are known of a condition, and the columns of a table in which it asks for one of them.
 #[derive(Drop)]
@@ -87,7 +88,7 @@ fn row_key<'r>(alloc: Global, row: &'r [Val], columns: &[ColId]) -> Result<Vec<K
     Ok(key)
 }
 
-/// Whether one of the keys is that of a row.
+/// Whether one of the keys is that of a row. A key of one cell is put into no list.
 pub(crate) fn row_has(
     alloc: Global,
     test: &KeyTest<'_, '_>,
@@ -96,6 +97,10 @@ pub(crate) fn row_has(
 ) -> Result<bool, Memory>
     ensures { IfOk result (λ b. b ≡ row_has test.now.set.now test.now.columns.items row.now) }
 {
+    if let [column] = test.columns.as_slice() {
+        let cell = key_cell(row, *column);
+        return Ok(has_key(test.set, slice::from_ref(&cell), looked));
+    }
     let key = row_key(alloc, row, &test.columns)?;
     Ok(has_key(test.set, &key, looked))
 }

@@ -1,5 +1,5 @@
 -- How what tests tell of a row is used.
-use Rattle.std.proofs.Common.{◌≡◌, ◌∙◌, ℕ, List, [], ◌∷◌, ◌++◌, filter, true, Option, None, append-nil, refl, sym, ap}
+use Rattle.std.proofs.Common.{◌≡◌, ◌∙◌, ℕ, List, [], ◌∷◌, ◌++◌, map, filter, true, Option, None, append-nil, refl, sym, ap}
 use Rattle.std.specs.Global.{Vec}
 use Rattle.hq_base.proofs.Lists.{each_all, filter_all}
 use Rattle.hq_sql_access.specs.View.{beside, joined_view, place_of, world_of}
@@ -9,7 +9,7 @@ use Rattle.hq_sql_access.specs.declared.row.Made.{Made}
 use Rattle.hq_sql_constants.specs.Sieves.{Tells}
 use Rattle.hq_sql_constants.specs.declared.sieve.Verdict.{Verdict}
 use Rattle.hq_sql_constants.specs.declared.sieve.Verdict.TheVariants.{Kept, Dropped, Open}
-use Rattle.hq_sql_select.specs.Gathered.{kept_joins}
+use Rattle.hq_sql_select.specs.Gathered.{Gathers, kept_joins}
 use Rattle.hq_sql_select.specs.Selected.{Adds, Told}
 use Rattle.hq_sql_tree.specs.Meaning.{NamedRow, Scope as Names, joined, kept, with_alias}
 use Rattle.hq_sql_tree.specs.Tree.{JoinTrees, no_filter, no_join}
@@ -32,17 +32,17 @@ all_kept js world n =
     let w = world_of world in
     filter_all (kept no_filter w) (joined js w n) (each_all (λ m. kept no_filter w m ≡ true) (λ m. refl) (joined js w n))
 
--- one place of a row beside which no join stands
-pub adds_alone : (js : JoinTrees) (world : Pinned) (n : Names) (position : ℕ) (places more : List JoinedRow) (v : Vec (Option Made))
-    → js ≡ no_join → more ≡ places ++ place_of position v ∷ [] → Adds js None world n position places more
-adds_alone js world n position places more v alone grown =
+-- one place of a row that WHERE keeps, beside which no join stands
+pub adds_alone : (js : JoinTrees) (f : Option Pred) (world : Pinned) (n : Names) (position : ℕ) (places more : List JoinedRow) (v : Vec (Option Made))
+    → js ≡ no_join → Told js f world n Kept → more ≡ places ++ place_of position v ∷ [] → Adds js f world n position places more
+adds_alone js f world n position places more v alone told grown =
     let w = world_of world in
-    (v ∷ [], grown, ap (λ k. beside k w n (joined_view v) ∷ []) alone ∙ ap (λ k. joined k w n) (sym alone) ∙ sym (all_kept js world n))
+    (v ∷ [], grown, ap (λ k. beside k w n (joined_view v) ∷ []) alone ∙ ap (λ k. joined k w n) (sym alone) ∙ sym told)
 
--- all of one of which WHERE keeps each
-pub adds_kept : (js : JoinTrees) (f : Option Pred) (world : Pinned) (n : Names) (position : ℕ) (places more : List JoinedRow)
-    → kept_joins js f world n ≡ joined js (world_of world) n → Adds js None world n position places more → Adds js f world n position places more
-adds_kept js f world n position places more told h = (h.0, h.1, h.2 ∙ all_kept js world n ∙ sym told)
+-- all places of one of which WHERE keeps each row of the joins
+pub adds_all : (js : JoinTrees) (f : Option Pred) (world : Pinned) (n : Names) (position : ℕ) (places more : List JoinedRow) (lists : List (Vec (Option Made)))
+    → Told js f world n Kept → Gathers js None world n lists → more ≡ places ++ map (place_of position) lists → Adds js f world n position places more
+adds_all js f world n position places more lists told h grown = (lists, grown, h ∙ all_kept js world n ∙ sym told)
 
 -- none of one of which it keeps nothing
 pub adds_none : (js : JoinTrees) (f : Option Pred) (world : Pinned) (n : Names) (position : ℕ) (places : List JoinedRow)

@@ -1,5 +1,5 @@
 //! Scans: which rows of FROM and its joins WHERE keeps.
-ghost use Rattle.std.specs.Prelude.{◌≡◌, ◌+◌, ◌<◌, ◌≤◌, false, length, None, IfOk, IfSome, OnOk};
+ghost use Rattle.std.specs.Prelude.{◌≡◌, ◌+◌, ◌<◌, ◌≤◌, false, true, length, IfOk, IfSome, OnOk};
 ghost use Rattle.hq_sql_conjuncts.specs.Conjuncts.{lent_weight};
 ghost use Rattle.hq_sql_conjuncts.specs.Weight.{filter_weight};
 ghost use Rattle.hq_sql_tree.specs.Tree.{no_join};
@@ -32,31 +32,15 @@ pub struct Piece<'d> {
     pub next: usize,
 }
 
-// Adds the places of all rows of the joins at a row of FROM.
-#[cycle(eval)]
-fn add_all<'d>(
-    alloc: Global,
-    places: &mut Vec<JoinedRow<'d>>,
-    position: usize,
-    joins: &'d [Join],
-    stages: &[Stage],
-    world: &Pinned<'d>,
-    scope: &Scope<'_, 'd>,
-) -> Result<(), Memory>
-    ensures { OnOk result (Adds (joins_view joins.now) None world.now (names_of scope.now world.now) position places.old.items places.new.items) }
+fn has_no_join(joins: &[Join]) -> bool
+    ensures { result ≡ true → joins_view joins.now ≡ no_join }
 {
-    if joins.is_empty() {
-        let joined = Vec::new(alloc);
-        places.push(JoinedRow { position, joined })?;
-        return Ok(());
-    }
-    let none = None;
-    let lists = gather(alloc, joins, stages, &none, world, scope)?;
-    add_places(places, position, lists)
+    joins.is_empty()
 }
 
 // Adds the places of the rows of the joins that WHERE keeps at a row of FROM, of which something may be told.
 #[cycle(eval)]
+#[tactic(auto, using(crate::proofs::Verdicts::adds_alone, crate::proofs::Verdicts::adds_all))]
 fn add_row<'d>(
     alloc: Global,
     places: &mut Vec<JoinedRow<'d>>,
@@ -72,7 +56,16 @@ fn add_row<'d>(
     ensures { OnOk result (Adds (joins_view joins.now) filter.now world.now (names_of scope.now world.now) position places.old.items places.new.items) }
 {
     match verdict {
-        Verdict::Kept => add_all(alloc, places, position, joins, stages, world, scope),
+        Verdict::Kept => {
+            if has_no_join(joins) {
+                let joined = Vec::new(alloc);
+                places.push(JoinedRow { position, joined })?;
+                return Ok(());
+            }
+            let none = None;
+            let lists = gather(alloc, joins, stages, &none, world, scope)?;
+            add_places(places, position, lists)
+        }
         Verdict::Dropped => Ok(()),
         Verdict::Open => {
             let lists = gather(alloc, joins, stages, filter, world, scope)?;

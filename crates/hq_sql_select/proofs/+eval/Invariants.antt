@@ -288,10 +288,7 @@ abbrev pub decreases-scans::scan_from : goal.decreases-scans::scan_from
 decreases-scans::scan_from l = 6 + (total (map join_weight l.joins.now) + (filter_weight l.filter.now + scope_weight l.scope.now))
 
 abbrev pub decreases-scans::add_row : goal.decreases-scans::add_row
-decreases-scans::add_row l = 5 + (total (map join_weight l.joins.now) + (filter_weight l.filter.now + scope_weight l.scope.now))
-
-abbrev pub decreases-scans::add_all : goal.decreases-scans::add_all
-decreases-scans::add_all l = 4 + (total (map join_weight l.joins.now) + scope_weight l.scope.now)
+decreases-scans::add_row l = 4 + (total (map join_weight l.joins.now) + (filter_weight l.filter.now + scope_weight l.scope.now))
 
 abbrev pub decreases-scans::keeps_some : goal.decreases-scans::keeps_some
 decreases-scans::keeps_some l = 4 + (total (map join_weight l.joins.now) + (filter_weight l.filter.now + scope_weight l.scope.now))
