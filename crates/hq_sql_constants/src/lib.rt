@@ -17,7 +17,7 @@ mod sifted;
 mod spans;
 mod worth;
 
-pub use plain::cell_in;
+pub use plain::{cell_in, constant};
 pub use row_test::{RowTest, one_holds, tests_of};
 pub use sieve::{Sieve, Verdict, sieve_of, verdict_at};
 pub use sifted::{left_of, with_left};

@@ -24,8 +24,8 @@ pub struct ColumnTest<'d> {
     pub operands: Vec<Cell<'d>>,
 }
 
-// The cell of a constant.
-fn constant<'d>(expr: &'d Expr) -> Option<Cell<'d>>
+/// The cell of a constant.
+pub fn constant<'d>(expr: &'d Expr) -> Option<Cell<'d>>
     ensures { IfSome result (λ c. (m : Names) → value (expr_view expr.now) [] m ≡ cell_view c) }
 {
     match expr {

@@ -17,6 +17,7 @@ use hq_base::{Bytes, Memory, Txt, put_quoted};
 use hq_model::{ColId, Column};
 use hq_sql_access::equations::is_joined;
 use hq_sql_cells::Cell;
+use hq_sql_constants::constant;
 use hq_sql_scans::links::{own_column, own_name};
 use hq_sql_tree::{Expr, ExprPairList};
 use std::alloc::Global;
@@ -65,18 +66,6 @@ fn head_of(alloc: Global, name: &Txt) -> Result<Bytes, Memory>
     put_quoted(&mut head, name)?;
     head.push(b':')?;
     Ok(head)
-}
-
-// The cell of a constant.
-fn constant<'d>(expr: &'d Expr) -> Option<Cell<'d>>
-    ensures { IfSome result (λ cell. (names : Names) → value (expr_view expr.now) [] names ≡ cell_view cell) }
-{
-    match expr {
-        Expr::Int(n) => Some(Cell::Int(*n as i128)),
-        Expr::Text(text) | Expr::Uuid(text) => Some(Cell::Text(text)),
-        Expr::Bool(b) => Some(Cell::Bool(*b)),
-        Expr::Column { .. } | Expr::Object(_) | Expr::Agg(_) => None,
-    }
 }
 
 // The JSON of a cell.
