@@ -5,7 +5,7 @@ ghost use Rattle.hq_base.specs.Cells.{json_of};
 ghost use Rattle.hq_base.specs.Compact.{compact, quoted};
 ghost use Rattle.hq_sql_cells.specs.View.{cell_view};
 ghost use Rattle.hq_sql_conjuncts.specs.Weight.{total, expr_weight, pair_weight};
-ghost use Rattle.hq_sql_tree.specs.Meaning.{Scope as Names, value};
+ghost use Rattle.hq_sql_tree.specs.Meaning.{Scope as Names};
 ghost use Rattle.hq_sql_tree.specs.View.{expr_view, pair_view};
 ghost use Rattle.hq_sql_output.specs.Elements.{AreMembers, AreSteady, IsContent, IsObject, IsSteady, content_weight, element_text, element_weight, member_weight, object_weight, row_text};
 
