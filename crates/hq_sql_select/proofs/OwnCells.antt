@@ -56,7 +56,8 @@ own_is stored a js e at alone own =
 
 -- ---- several
 
-none_at : (es : List ExprTree) (row : Row) (n : Names) → AreCells es [] row n
+-- none is given a column, in one row
+pub none_at : (es : List ExprTree) (row : Row) (n : Names) → AreCells es [] row n
 none_at [] row n = tt
 none_at (e ∷ es) row n = tt
 
@@ -95,10 +96,12 @@ pub more_exprs : (from : Source) (a : List ℕ) (js : JoinTrees) (items : List E
     → AreCellsOf from a js (map expr_view (take i items)) own → IfSome c (IsCellOf from a js (expr_view item)) → AreCellsOf from a js (map expr_view (take (i + 1) items)) (own ++ c ∷ [])
 more_exprs from a js items i item own c lt is long = more_of expr_view from a js items i item own c (expr_view item) lt is long refl
 
--- the cell in the column that an expression is given
-pub cell_at : (es : List ExprTree) (own : List (Option ℕ)) (i : ℕ) (d : ExprTree) (row : Row) (n : Names) → i < length es → AreCells es own row n
-    → IfSome (get_or own i None) (λ at. value (get_or es i d) [] n ≡ cell_in row at)
-cell_at [] own i d row n lt h = absurd (omega arith)
-cell_at (e ∷ es) [] i d row n lt h = tt
-cell_at (e ∷ es) (c ∷ own) zero d row n lt h = h.0
-cell_at (e ∷ es) (c ∷ own) (suc i) d row n lt h = cell_at es own i d row n (omega arith) h.1
+-- the cell in the column that an item of a list is given, seen as its expression
+pub item_cell : {A : Type 0} (view : A → ExprTree) (items : List A) (own : List (Option ℕ)) (i : ℕ) (item : A) (c : Option ℕ) (e : ExprTree) (row : Row) (n : Names)
+    → i < length items → item ≡ get_or items i item → view item ≡ e → c ≡ get_or own i None → AreCells (map view items) own row n
+    → IfSome c (λ at. value e [] n ≡ cell_in row at)
+item_cell view [] own i item c e row n lt is seen told h = absurd (omega arith)
+item_cell view (x ∷ xs) [] i item c e row n lt is seen told h = subst (λ d. IfSome d (λ at. value e [] n ≡ cell_in row at)) (sym told) tt
+item_cell view (x ∷ xs) (d ∷ own) zero item c e row n lt is seen told h =
+    subst (λ d. IfSome d (λ at. value e [] n ≡ cell_in row at)) (sym told) (subst (λ f. IfSome d (λ at. value f [] n ≡ cell_in row at)) (ap view (sym is) ∙ seen) h.0)
+item_cell view (x ∷ xs) (d ∷ own) (suc i) item c e row n lt is seen told h = item_cell view xs own i item c e row n (omega arith) is seen told h.1

@@ -40,7 +40,6 @@ fn has_no_join(joins: &[Join]) -> bool
 
 // Adds the places of the rows of the joins that WHERE keeps at a row of FROM, of which something may be told.
 #[cycle(eval)]
-#[tactic(auto, using(crate::proofs::Verdicts::adds_alone, crate::proofs::Verdicts::adds_all))]
 fn add_row<'d>(
     alloc: Global,
     places: &mut Vec<JoinedRow<'d>>,

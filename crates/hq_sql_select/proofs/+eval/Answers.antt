@@ -1,7 +1,7 @@
-use Rattle.std.proofs.Common.{List, rules, ◌≡◌, ◌==◌, ◌≤◌, ◌+◌, ◌<◌, ◌∷◌, [], Some, None, true, IfOk, option_map, map, length, ◌++◌, filter as kept_items, flat_map, take, drop, get_or, refl, subst, sym, ap, ap₂, ◌∙◌, arith}
+use Rattle.std.proofs.Common.{List, Option, rules, ◌≡◌, ◌==◌, ◌≤◌, ◌+◌, ◌<◌, ◌∷◌, [], Some, None, true, IfOk, option_map, map, length, ◌++◌, filter as kept_items, flat_map, take, drop, get_or, refl, subst, sym, ap, ap₂, ◌∙◌, arith}
 use Rattle.std.proofs.lemmas.List.{map-append, length-map, take_all}
 use Rattle.std.proofs.lemmas.Option.{IfSome_then}
-use Rattle.std.proofs.lemmas.Result.{IfOk-weaker}
+use Rattle.std.proofs.lemmas.Result.{IfOk-weaker, on_ok_weaker}
 use Rattle.std.specs.Vec.Iter.{into_iter_items}
 use Rattle.hq_base.specs.Cells as cell
 use Rattle.hq_base.specs.Cells.{json_of}
@@ -26,7 +26,10 @@ use Rattle.hq_sql_tree.specs.Meaning.{NamedRow, Scope as Names, with_alias, trut
 use Rattle.hq_sql_access.specs.View.{made_view, named_view, first_row, source_view, row_in, row_view, joined_view, world_of, names_of, names_at, group_of, beside}
 use Rattle.hq_sql_access.specs.Joined.{join_in, joined_at}
 use Rattle.hq_sql_access.proofs.Besides.{beside_filled, weight_before}
-use Rattle.hq_sql_select.specs.Gathered.{names_joined}
+use Rattle.hq_sql_access.specs.declared.row.Made.{Made}
+use Rattle.hq_sql_select.specs.Gathered.{joins_view, names_joined}
+use Rattle.hq_sql_select.specs.OwnColumns.{AreCells, key_exprs}
+use Rattle.hq_sql_select.proofs.OwnCells.{item_cell, none_at}
 use Rattle.hq_sql_access.specs.Keys.{with_json, json_at, outputs_of, output_at, key_values, member_at, with_cells, taken_at}
 use Rattle.hq_sql_access.specs.Sources.{alias_in, rows_given, has_items}
 use Rattle.hq_sql_scans.specs.Positions.{positions_of, rows_at, kept_of, arranged}
@@ -45,7 +48,7 @@ use Rattle.hq_sql_select.proofs.Ordered.{elements_are, arranged_is, groups_are}
 use Rattle.hq_sql_select.proofs.Evaluated.{members_mapped, outputs_all, later_is, keys_is, spread_step, any_found, any_passed, scan_step, rows_are, exists_is, paged_map, scan_all, page_front, top_step, top_page, group_step, group_page, group_all}
 use Rattle.hq_sql_select.proofs.Loops.{map_more, scope_more, value_more, holds_next, next_item, view_pair, view_key}
 use Rattle.hq_sql_select.proofs.Told.{none_in, tells_at}
-use Rattle.hq_sql_select.proofs.Verdicts.{told_there}
+use Rattle.hq_sql_select.proofs.Verdicts.{adds_all, adds_alone, told_there}
 use Rattle.hq_sql_select.specs.Selected.{Told}
 use Rattle.hq_sql_constants.specs.Sieves.{Tells}
 use Rattle.hq_sql_constants.specs.declared.sieve.Verdict.TheVariants as verdict
@@ -67,8 +70,11 @@ values::keys-value_in-requires t c =
     let is = rw c.deref-key-items.ensures.value at c.key-item.is in
     let os = c.args.order.now.items in
     let e : expr_weight c.key-item.result.value ≤ total (map order_weight os) =
-    subst (λ o. expr_weight o.value ≤ total (map order_weight os)) (sym is) (order_item os c.loop-at.at c.key-item.result inside) in
-    omega arith
+    subst (λ o. expr_weight o.value ≤ total (map order_weight os)) (sym is) (order_item os c.loop-at.at c.key-item.result inside) in (
+      omega arith,
+      item_cell (λ o. (order_view o).value) os c.args.own.now c.loop-at.at c.key-item.result c.column_at-column.result (expr_view c.key-item.result.value)
+          c.args.row.now (names_of c.args.scope.now c.args.world.now) inside is (view_key c.key-item.result) c.column_at-column.ensures c.requires,
+    )
 
 pub values::values-value_in-requires : goal.values::values-value_in-requires
 values::values-value_in-requires t c =
@@ -76,8 +82,35 @@ values::values-value_in-requires t c =
     let is = rw c.deref-expr-items.ensures.value at c.expr-item.is in
     let es = c.args.exprs.now.items in
     let e : expr_weight c.expr-item.result ≤ total (map expr_weight es) =
-    subst (λ x. expr_weight x ≤ total (map expr_weight es)) (sym is) (expr_item es c.loop-at.at c.expr-item.result inside) in
-    omega arith
+    subst (λ x. expr_weight x ≤ total (map expr_weight es)) (sym is) (expr_item es c.loop-at.at c.expr-item.result inside) in (
+      omega arith,
+      item_cell expr_view es c.args.own.now c.loop-at.at c.expr-item.result c.column_at-column.result (expr_view c.expr-item.result)
+          c.args.row.now (names_of c.args.scope.now c.args.world.now) inside is refl c.column_at-column.ensures c.requires,
+    )
+
+pub aggregates::each_json-keys-requires : goal.aggregates::each_json-keys-requires
+aggregates::each_json-keys-requires t c = (omega arith, none_at _ _ _)
+
+pub truths::tested-values-requires : goal.truths::tested-values-requires
+truths::tested-values-requires t c = (omega arith, none_at _ _ _)
+
+pub pages::with_keys-keys-requires : goal.pages::with_keys-keys-requires
+pages::with_keys-keys-requires t c =
+    let N : List (Option Made) → Names = λ rows. names_joined c.args.joins.now rows c.args.world.now (names_of c.args.scope.now c.args.world.now) in
+    let es = key_exprs c.args.order.now.items in (
+      omega arith,
+      subst (λ own. AreCells es own c.args.row.now (N c.deref.result.now)) (sym c.deref-2.ensures.value)
+          (subst (λ rows. AreCells es c.args.own.now.keys.items c.args.row.now (N rows)) (sym c.deref.ensures.value) c.requires.keys),
+    )
+
+pub pages::with_keys-values-requires : goal.pages::with_keys-values-requires
+pages::with_keys-values-requires t c =
+    let N : List (Option Made) → Names = λ rows. names_joined c.args.joins.now rows c.args.world.now (names_of c.args.scope.now c.args.world.now) in
+    let es = map expr_view c.args.distinct.now.items in (
+      omega arith,
+      subst (λ own. AreCells es own c.args.row.now (N c.deref.result.now)) (sym c.deref-3.ensures.value)
+          (subst (λ rows. AreCells es c.args.own.now.distinct.items c.args.row.now (N rows)) (sym c.deref.ensures.value) c.requires.distinct),
+    )
 
 pub truths::all_true-all_true-requires : goal.truths::all_true-all_true-requires
 truths::all_true-all_true-requires t c =
@@ -346,6 +379,22 @@ scans::any_row-returns t c =
     ≡ [])
     (take_all c.loop-turn.turn rs all) c.loop-turn.invariant in
     ap has_items (sym none ∙ c.in_ok-looked.ensures w)
+
+pub scans::add_row-returns-then-has_no_join : goal.scans::add_row-returns-then-has_no_join
+scans::add_row-returns-then-has_no_join t c =
+    let js = joins_view c.args.joins.now in
+    let n = names_of c.args.scope.now c.args.world.now in
+    let told : Told js c.args.filter.now c.args.world.now n verdict.Kept = rw c.in-Kept.is at c.requires in
+    adds_alone js c.args.filter.now c.args.world.now n c.args.position c.args.places.now.items c.push.new.self.items c.new-joined.result
+    (c.has_no_join.ensures c.if-has_no_join.true) told c.in_ok-push-in-Kept.ensures.items
+
+pub scans::add_row-returns-in_ok-lists-in-Kept : goal.scans::add_row-returns-in_ok-lists-in-Kept
+scans::add_row-returns-in_ok-lists-in-Kept t c =
+    let js = joins_view c.args.joins.now in
+    let n = names_of c.args.scope.now c.args.world.now in
+    let told : Told js c.args.filter.now c.args.world.now n verdict.Kept = rw c.in-Kept.is at c.requires in
+    on_ok_weaker c.add_places.result (adds_all js c.args.filter.now c.args.world.now n c.args.position c.args.places.now.items c.add_places.new.places.items
+    c.in_ok-lists-in-Kept.lists.items told c.in_ok-lists-in-Kept.ensures) c.add_places.ensures
 
 pub scans::scan_from-add_row-requires : goal.scans::scan_from-add_row-requires
 scans::scan_from-add_row-requires t c =
