@@ -5,9 +5,7 @@ use Rattle.std.proofs.lemmas.Bool.{or_parts}
 use Rattle.std.proofs.lemmas.List.{take_more, map-append}
 use Rattle.hq_base.specs.Cells.{CellTree, json_of}
 use Rattle.hq_base.specs.Compact.{compact, quoted}
-use Rattle.hq_model.specs.Database.{Row}
 use Rattle.hq_model.specs.declared.table.Column.{Column}
-use Rattle.hq_load_index.specs.Keys.{cell_in}
 use Rattle.hq_sql_conjuncts.specs.Weight.{total, expr_weight, pair_weight}
 use Rattle.hq_sql_conjuncts.proofs.Splits.{total_append}
 use Rattle.hq_sql_conjuncts.proofs.Weights.{pair_is as pair_weighs}

@@ -3,7 +3,7 @@ use Rattle.hq_sql_tree.specs.View.{expr_view, pair_view}
 use Rattle.hq_sql_conjuncts.specs.Weight.{total, expr_weight, pair_weight, select_weight, join_weight}
 use Rattle.hq_sql_scans.specs.Positions.{positions_of}
 use Rattle.hq_sql_access.specs.Sources.{has_items}
-use Rattle.hq_sql_access.specs.View.{world_of, names_of}
+use Rattle.hq_sql_access.specs.View.{names_of}
 use Rattle.hq_sql_access.specs.Weight.{scope_weight}
 use Rattle.hq_sql_output.specs.Elements.{content_weight, element_weight, members_text, object_weight, text_at}
 use Rattle.hq_sql_output.specs.Listed.{listed_weight}
