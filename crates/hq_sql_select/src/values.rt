@@ -1,7 +1,6 @@
 //! Values of expressions.
-ghost use Rattle.std.specs.Prelude.{◌≡◌, [], map, IfOk, IfSome};
+ghost use Rattle.std.specs.Prelude.{◌≡◌, map, IfOk};
 ghost use Rattle.hq_base.specs.Json.{member_view};
-ghost use Rattle.hq_load_index.specs.Keys.{cell_in};
 ghost use Rattle.hq_sql_cells.specs.View.{cell_view};
 ghost use Rattle.hq_sql_tree.specs.View.{expr_view, pair_view, order_view};
 ghost use Rattle.hq_sql_tree.specs.Meaning.{cell_named, value};
@@ -97,25 +96,6 @@ fn members<'d>(
     Ok(members)
 }
 
-// The value of an expression: where it is given a column, the cell of this row in it.
-#[cycle(eval)]
-fn value_in<'d>(
-    alloc: Global,
-    expr: &'d Expr,
-    column: Option<ColId>,
-    row: &'d [Val],
-    world: &Pinned<'d>,
-    scope: &Scope<'_, 'd>,
-) -> Result<Cell<'d>, Memory>
-    requires { IfSome column (λ at. value (expr_view expr.now) [] (names_of scope.now world.now) ≡ cell_in row.now at) }
-    ensures { IfOk result (λ cell. cell_view cell ≡ value (expr_view expr.now) [] (names_of scope.now world.now)) }
-{
-    match column {
-        Some(column) => Ok(cell_in(row, column)),
-        None => value(alloc, expr, world, Group::Alone, scope),
-    }
-}
-
 /// The sort keys of a row, each the value of its expression; those that are given a column are cells of this row of FROM's table.
 #[cycle(eval)]
 pub fn keys<'d>(
@@ -131,8 +111,11 @@ pub fn keys<'d>(
 {
     let mut keys = Vec::with_capacity(alloc, order.len())?;
     for (at, key) in order.iter().enumerate() {
-        let column = column_at(own, at);
-        keys.push(value_in(alloc, &key.value, column, row, world, scope)?)?;
+        let cell = match column_at(own, at) {
+            Some(column) => cell_in(row, column),
+            None => value(alloc, &key.value, world, Group::Alone, scope)?,
+        };
+        keys.push(cell)?;
     }
     Ok(keys)
 }
@@ -152,8 +135,11 @@ pub fn values<'d>(
 {
     let mut values = Vec::with_capacity(alloc, exprs.len())?;
     for (at, expr) in exprs.iter().enumerate() {
-        let column = column_at(own, at);
-        values.push(value_in(alloc, expr, column, row, world, scope)?)?;
+        let cell = match column_at(own, at) {
+            Some(column) => cell_in(row, column),
+            None => value(alloc, expr, world, Group::Alone, scope)?,
+        };
+        values.push(cell)?;
     }
     Ok(values)
 }

@@ -1,4 +1,4 @@
-use Rattle.std.proofs.Common.{List, Option, rules, ◌≡◌, ◌==◌, ◌≤◌, ◌+◌, ◌<◌, ◌∷◌, [], Some, None, true, IfOk, option_map, map, length, ◌++◌, filter as kept_items, flat_map, take, drop, get_or, refl, subst, sym, ap, ap₂, ◌∙◌, arith}
+use Rattle.std.proofs.Common.{ℕ, List, Option, IfSome, rules, ◌≡◌, ◌==◌, ◌≤◌, ◌+◌, ◌<◌, ◌∷◌, [], Some, None, true, IfOk, option_map, map, length, ◌++◌, filter as kept_items, flat_map, take, drop, get_or, refl, subst, sym, ap, ap₂, ◌∙◌, arith}
 use Rattle.std.proofs.lemmas.List.{map-append, length-map, take_all}
 use Rattle.std.proofs.lemmas.Option.{IfSome_then}
 use Rattle.std.proofs.lemmas.Result.{IfOk-weaker, on_ok_weaker}
@@ -9,6 +9,7 @@ use Rattle.hq_base.specs.Json as json
 use Rattle.hq_base.specs.Json.{json_view, member_view, members_of, elements_of}
 use Rattle.hq_base.specs.Aggregates.{counted, aggregated}
 use Rattle.hq_base.specs.Lists.{sort}
+use Rattle.hq_load_index.specs.Keys.{cell_in}
 use Rattle.hq_sql_cells.specs.View.{cell_view}
 use Rattle.hq_sql_tree.specs.declared.select.Join.{the_lemmas as join_lemmas}
 use Rattle.hq_base.specs.declared.json.Member.{Member}
@@ -55,6 +56,7 @@ use Rattle.hq_sql_constants.specs.declared.sieve.Verdict.TheVariants as verdict
 use Rattle.hq_model.specs.declared.truth.Truth.TheVariants.{Yes}
 use Rattle.hq_sql_select.proofs.+eval.Goals.{truths::all_true-in-Opened+in_ok-all-in-Opened, truths::all_true-in-Tried+in_ok-truth-in-Tried, truths::all_true-in-Other}
 use Rattle.hq_sql_select.proofs.+eval.Goals.{joins::with_due-then-is_due+in_ok-row+in_ok-all-2, joins::with_due-else-is_due}
+use Rattle.hq_sql_select.proofs.+eval.Goals.{values::keys-in-Some, values::keys-in-None+in_ok-cell-in-None, values::values-in-Some, values::values-in-None+in_ok-cell-in-None}
 use Rattle.hq_sql_select.proofs.+eval.Goals as goal
 
 -- ---- an item weighs at most its list
@@ -64,29 +66,23 @@ values::members-value-requires t c =
     let e : expr_weight c.pair-item.result.value ≤ total (map pair_weight c.args.pairs.now.items) = search (rules, pair_item) in
     omega arith
 
-pub values::keys-value_in-requires : goal.values::keys-value_in-requires
-values::keys-value_in-requires t c =
+pub values::keys-value-requires : goal.values::keys-value-requires
+values::keys-value-requires t c =
     let inside = rw c.deref-key-items.ensures.value at c.loop-at-test.true in
     let is = rw c.deref-key-items.ensures.value at c.key-item.is in
     let os = c.args.order.now.items in
     let e : expr_weight c.key-item.result.value ≤ total (map order_weight os) =
-    subst (λ o. expr_weight o.value ≤ total (map order_weight os)) (sym is) (order_item os c.loop-at.at c.key-item.result inside) in (
-      omega arith,
-      item_cell (λ o. (order_view o).value) os c.args.own.now c.loop-at.at c.key-item.result c.column_at-column.result (expr_view c.key-item.result.value)
-          c.args.row.now (names_of c.args.scope.now c.args.world.now) inside is (view_key c.key-item.result) c.column_at-column.ensures c.requires,
-    )
+    subst (λ o. expr_weight o.value ≤ total (map order_weight os)) (sym is) (order_item os c.loop-at.at c.key-item.result inside) in
+    omega arith
 
-pub values::values-value_in-requires : goal.values::values-value_in-requires
-values::values-value_in-requires t c =
+pub values::values-value-requires : goal.values::values-value-requires
+values::values-value-requires t c =
     let inside = rw c.deref-expr-items.ensures.value at c.loop-at-test.true in
     let is = rw c.deref-expr-items.ensures.value at c.expr-item.is in
     let es = c.args.exprs.now.items in
     let e : expr_weight c.expr-item.result ≤ total (map expr_weight es) =
-    subst (λ x. expr_weight x ≤ total (map expr_weight es)) (sym is) (expr_item es c.loop-at.at c.expr-item.result inside) in (
-      omega arith,
-      item_cell expr_view es c.args.own.now c.loop-at.at c.expr-item.result c.column_at-column.result (expr_view c.expr-item.result)
-          c.args.row.now (names_of c.args.scope.now c.args.world.now) inside is refl c.column_at-column.ensures c.requires,
-    )
+    subst (λ x. expr_weight x ≤ total (map expr_weight es)) (sym is) (expr_item es c.loop-at.at c.expr-item.result inside) in
+    omega arith
 
 pub aggregates::each_json-keys-requires : goal.aggregates::each_json-keys-requires
 aggregates::each_json-keys-requires t c = (omega arith, none_at _ _ _)
@@ -772,9 +768,19 @@ values::keys-loop-at-preserved t c =
     let is = rw c.deref-key-items.ensures.value at c.key-item.is in
     let n = names_of c.args.scope.now c.args.world.now in
     let done = map cell_view c.loop-at.keys.items in
-    map_more (λ o. value o.value [] n) order_view c.args.order.now.items c.loop-at.at c.key-item.result done (map cell_view c.push.new.self.items) inside is c.loop-at.invariant
+    let o = c.key-item.result in
+    let P : Option ℕ → Type 0 = λ column. IfSome column (λ at. value (expr_view o.value) [] n ≡ cell_in c.args.row.now at) in
+    let given : P c.column_at.result =
+    item_cell (λ o. (order_view o).value) c.args.order.now.items c.args.own.now c.loop-at.at o c.column_at.result (expr_view o.value) c.args.row.now n
+    inside is (view_key o) c.column_at.ensures c.requires in
+    let cell : cell_view c.match-column_at.cell ≡ value (expr_view o.value) [] n =
+    elim c.match-column_at.branch [
+      | values::keys-in-Some w ↦ ap cell_view w.cell-is ∙ w.cell_in-cell.ensures ∙ sym (subst P w.in-Some.is given)
+      | values::keys-in-None+in_ok-cell-in-None w ↦ ap cell_view w.cell-is ∙ w.in_ok-cell-in-None.ensures
+    ] in
+    map_more (λ o. value o.value [] n) order_view c.args.order.now.items c.loop-at.at o done (map cell_view c.push.new.self.items) inside is c.loop-at.invariant
     (ap (map cell_view) c.in_ok-push.ensures.items ∙ map-append cell_view c.loop-at.keys.items _
-    ∙ ap (λ v. done ++ v ∷ []) (c.in_ok-value_in.ensures ∙ ap (λ e. value e [] n) (sym (view_key c.key-item.result))))
+    ∙ ap (λ v. done ++ v ∷ []) (cell ∙ ap (λ e. value e [] n) (sym (view_key o))))
 
 pub values::values-loop-at-preserved : goal.values::values-loop-at-preserved
 values::values-loop-at-preserved t c =
@@ -782,8 +788,17 @@ values::values-loop-at-preserved t c =
     let is = rw c.deref-expr-items.ensures.value at c.expr-item.is in
     let n = names_of c.args.scope.now c.args.world.now in
     let done = map cell_view c.loop-at.values.items in
-    map_more (λ e. value e [] n) expr_view c.args.exprs.now.items c.loop-at.at c.expr-item.result done (map cell_view c.push.new.self.items) inside is c.loop-at.invariant
-    (ap (map cell_view) c.in_ok-push.ensures.items ∙ map-append cell_view c.loop-at.values.items _ ∙ ap (λ v. done ++ v ∷ []) c.in_ok-value_in.ensures)
+    let x = c.expr-item.result in
+    let P : Option ℕ → Type 0 = λ column. IfSome column (λ at. value (expr_view x) [] n ≡ cell_in c.args.row.now at) in
+    let given : P c.column_at.result =
+    item_cell expr_view c.args.exprs.now.items c.args.own.now c.loop-at.at x c.column_at.result (expr_view x) c.args.row.now n inside is refl c.column_at.ensures c.requires in
+    let cell : cell_view c.match-column_at.cell ≡ value (expr_view x) [] n =
+    elim c.match-column_at.branch [
+      | values::values-in-Some w ↦ ap cell_view w.cell-is ∙ w.cell_in-cell.ensures ∙ sym (subst P w.in-Some.is given)
+      | values::values-in-None+in_ok-cell-in-None w ↦ ap cell_view w.cell-is ∙ w.in_ok-cell-in-None.ensures
+    ] in
+    map_more (λ e. value e [] n) expr_view c.args.exprs.now.items c.loop-at.at x done (map cell_view c.push.new.self.items) inside is c.loop-at.invariant
+    (ap (map cell_view) c.in_ok-push.ensures.items ∙ map-append cell_view c.loop-at.values.items _ ∙ ap (λ v. done ++ v ∷ []) cell)
 
 pub joins::outputs-loop-out-preserved : goal.joins::outputs-loop-out-preserved
 joins::outputs-loop-out-preserved t c =

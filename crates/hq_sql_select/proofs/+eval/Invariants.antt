@@ -140,14 +140,11 @@ decreases-values::value l = expr_weight l.expr.now + scope_weight l.scope.now
 abbrev pub decreases-values::members : goal.decreases-values::members
 decreases-values::members l = 1 + (total (map pair_weight l.pairs.now.items) + scope_weight l.scope.now)
 
-abbrev pub decreases-values::value_in : goal.decreases-values::value_in
-decreases-values::value_in l = 1 + (expr_weight l.expr.now + scope_weight l.scope.now)
-
 abbrev pub decreases-values::keys : goal.decreases-values::keys
-decreases-values::keys l = 2 + (total (map order_weight l.order.now.items) + scope_weight l.scope.now)
+decreases-values::keys l = 1 + (total (map order_weight l.order.now.items) + scope_weight l.scope.now)
 
 abbrev pub decreases-values::values : goal.decreases-values::values
-decreases-values::values l = 2 + (total (map expr_weight l.exprs.now.items) + scope_weight l.scope.now)
+decreases-values::values l = 1 + (total (map expr_weight l.exprs.now.items) + scope_weight l.scope.now)
 
 abbrev pub decreases-aggregates::taken : goal.decreases-aggregates::taken
 decreases-aggregates::taken l = agg_weight l.agg.now + scope_weight l.scope.now
