@@ -46,11 +46,12 @@ use Rattle.hq_sql_constants.proofs.RangeEntries.{cells_stand}
 use Rattle.hq_model.specs.declared.op.Op.TheVariants.{Eq}
 use Rattle.hq_sql_constants.specs.Patterns.{AsksLike, is_like}
 use Rattle.hq_sql_constants.specs.Ranged.{AsksRange, HaveSame, meets_all}
-use Rattle.hq_sql_constants.specs.Sifted.{AreConstants, AreTaken, FindsOver, HasSlots, IsLeft, KeepsSame, MarksAll, as_looked, has_constant, places_looked, slot_of, with_places}
+use Rattle.hq_sql_constants.specs.Sifted.{AreConstants, AreTaken, FindsOver, HasSlots, IsLeft, KeepsSame, MarksAll, as_looked, has_constant, places_left, slot_of, with_places}
 use Rattle.hq_sql_constants.specs.declared.marked.Constants.{Constants}
 use Rattle.hq_sql_constants.specs.declared.ranged.Bound.{Bound}
+use Rattle.hq_sql_constants.specs.declared.sifted.Left.{Left}
 use Rattle.hq_sql_scans.specs.Links.{has_cell}
-use Rattle.hq_sql_scans.specs.Ordered.{Finds}
+use Rattle.hq_sql_scans.specs.Ordered.{Finds, places_looked}
 use Rattle.hq_sql_scans.specs.Positions.{kept_of, positions_of, rows_at}
 use Rattle.hq_sql_scans.specs.declared.ordered.Looked.{Looked}
 use Rattle.hq_sql_scans.specs.declared.positions.Positions.{Positions}
@@ -281,6 +282,11 @@ module _ (w : World) (js : JoinTrees) (alias name : List ℕ) (p : PredTree) (st
 
 -- ---- what a scan finds
 
+-- what is kept of rows as of others, and of these as of others again
+pub keeps_both : (w : World) (js : JoinTrees) (alias : List ℕ) (f : tree.FilterTree) (rows others more : List NamedRow)
+    → KeepsSame w js alias f rows others → KeepsSame w js alias f others more → KeepsSame w js alias f rows more
+keeps_both w js alias f rows others more first second = record { same = λ n. first.same n ∙ second.same n }
+
 -- what a scan finds, it finds over these tables
 finds_over : (w : World) (js : JoinTrees) (scope : Scope) (alias : List ℕ) (parts : Parts) (source : Source) (looked : Looked)
     → Finds js scope alias parts source looked → FindsOver w js scope alias parts source looked
@@ -295,24 +301,19 @@ stand_alike parts (Sorted at) positions names = refl
 stand_alike parts (Unsorted at) positions names = refl
 
 -- what a scan finds at its places it finds over these tables at those that are left
-pub left_finds : (w : World) (js : JoinTrees) (scope : Scope) (alias : List ℕ) (parts : Parts) (source : Source) (looked : Looked)
-    (left : Option (Vec ℕ)) (again : Looked)
+pub left_finds : (w : World) (js : JoinTrees) (scope : Scope) (alias : List ℕ) (parts : Parts) (source : Source) (looked : Looked) (left : Left) (again : Looked)
     → Finds js scope alias parts source looked
-    → IfSome left
-    (λ places. KeepsSame w js alias (filter_view parts.filter.now) (map (row_in source) places.items)
-    (rows_at source (places_looked looked)))
+    → KeepsSame w js alias (filter_view parts.filter.now) (map (row_in source) (places_left left)) (rows_at source (places_looked looked))
     → IsLeft looked left again → FindsOver w js scope alias parts source again
-left_finds w js scope alias parts source looked None again finds keeps is =
-    subst (FindsOver w js scope alias parts source) (sym is) (finds_over w js scope alias parts source looked finds)
-left_finds w js scope alias parts source looked (Some places) again finds keeps is =
+left_finds w js scope alias parts source looked left again finds keeps is =
     let keep : List NamedRow → List Names = kept_of js w (scope_of scope w) alias (kept (filter_view parts.filter.now) w) in
     let all = keep (source_view source) in
     ap (λ l. keep (map (row_in source) l)) is.1 ∙ keeps.same (scope_of scope w) ∙ finds_over w js scope alias parts source looked finds
     ∙ sym (stand_alike parts looked (places_looked again) all) ∙ ap (λ l. as_looked parts l all) (sym is.0)
 
 -- other places, which stand as those did, are left of them
-pub left_some : (looked again : Looked) (positions : Positions) (places : Vec ℕ) → again ≡ with_places looked positions
-    → positions_of positions ≡ places.items → IsLeft looked (Some places) again
-left_some (Arranged at) again positions places is e = subst (IsLeft (Arranged at) (Some places)) (sym is) (refl, e)
-left_some (Sorted at) again positions places is e = subst (IsLeft (Sorted at) (Some places)) (sym is) (refl, e)
-left_some (Unsorted at) again positions places is e = subst (IsLeft (Unsorted at) (Some places)) (sym is) (refl, e)
+pub left_placed : (looked again : Looked) (positions : Positions) (left : Left) → again ≡ with_places looked positions
+    → positions_of positions ≡ places_left left → IsLeft looked left again
+left_placed (Arranged at) again positions left is e = subst (IsLeft (Arranged at) left) (sym is) (refl, e)
+left_placed (Sorted at) again positions left is e = subst (IsLeft (Sorted at) left) (sym is) (refl, e)
+left_placed (Unsorted at) again positions left is e = subst (IsLeft (Unsorted at) left) (sym is) (refl, e)

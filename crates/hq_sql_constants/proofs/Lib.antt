@@ -10,3 +10,4 @@ pub mod KeyValues
 pub mod Ranges
 pub mod RangeEntries
 pub mod Slots
+pub mod Walks

@@ -190,13 +190,19 @@ has_key_cell bs (text t) some e = refl
 has_key_cell bs (bool b) some e = refl
 has_key_cell bs (json j) some e = refl
 
--- of the rows that meet comparisons the entries between two places have the same as all rows, in the order of their keys
+-- of the rows that meet comparisons the entries between two places have the same as all entries
+pub span_kept : (column : ℕ) (rows : List (List Val)) (entries : List ℕ) (bs : List Bound) (s : Between)
+    → StandsBetween column rows entries bs s → HaveSame column rows bs (take (s.to - s.from) (drop s.from entries)) entries
+span_kept column rows entries bs s h =
+    middle_kept (row_meets column rows bs) entries 0 s.from (s.to - s.from) (λ i lt e. let b = h.between i lt e in (b.0, omega (arith, b.1, h.ordered)))
+
+-- or as all rows, in the order of their keys
 span_sorted : (column : ℕ) (rows : List (List Val)) (entries : List ℕ) (bs : List Bound) (s : Between) → 0 < length bs
     → entries ≡ indexed_rows (column ∷ []) rows → StandsBetween column rows entries bs s
     → HaveSame column rows bs (take (s.to - s.from) (drop s.from entries)) (sort (by_key (column ∷ []) rows) (counted 0 (length rows)))
 span_sorted column rows entries bs s some is h =
     let q = row_meets column rows bs in
-    middle_kept q entries 0 s.from (s.to - s.from) (λ i lt e. let b = h.between i lt e in (b.0, omega (arith, b.1, h.ordered)))
+    span_kept column rows entries bs s h
     ∙ ap (filter q) is
     ∙ filter_weaker q (λ n. not (has_null (key_at (column ∷ []) rows n))) (λ n e. has_key_cell bs (cell_in (get_or rows n []) column) some e) _
 

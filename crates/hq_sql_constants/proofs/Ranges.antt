@@ -1,5 +1,5 @@
 -- Conditions that ask a column to be in a range.
-use Rattle.std.proofs.Common.{◌≡◌, ◌∙◌, ◌<◌, ℕ, List, [], ◌∷◌, ◌++◌, map, length, get_or, Bool, true, false, ◌&&◌, refl, sym, ap, ap₂, subst, arith}
+use Rattle.std.proofs.Common.{◌≡◌, ◌∙◌, ◌<◌, ℕ, List, [], ◌∷◌, ◌++◌, map, length, get_or, Bool, true, false, ◌==◌, ◌&&◌, refl, sym, ap, ap₂, subst, arith}
 use Rattle.hq_base.proofs.Lists.{map_map}
 use Rattle.hq_base.specs.Cells.{CellTree}
 use Rattle.hq_load_index.specs.Keys.{cell_view}
@@ -56,8 +56,11 @@ asks_more ps i p alias name bs more b lt is so_far one grown =
 pub asks_range : (p : PredTree) (alias name : List ℕ) (bs : List Bound) → 0 < length bs → AsksAll p alias name bs → AsksRange p alias name bs
 asks_range p alias name bs some all = record { some = some; all = all }
 
+pub some_asked : (p : PredTree) (alias name : List ℕ) (bs : List Bound) → (length bs == 0) ≡ false → AsksAll p alias name bs → AsksRange p alias name bs
+some_asked p alias name [] e all = cc
+some_asked p alias name (b ∷ bs) e all = record { some = omega arith; all = all }
+
 -- one is asked
-pub asks_one : (p : PredTree) (alias name : List ℕ) (b : Bound) (bs : List Bound) → bs ≡ b ∷ [] → AsksBound p alias name b → AsksRange p alias name bs
-asks_one p alias name b bs is one =
-    subst (AsksRange p alias name) (sym is)
-    (record { some = omega arith; all = record { asks = λ w m holds. ap (λ d. d && true) (one.asks w m holds) } })
+pub asks_one : (p : PredTree) (alias name : List ℕ) (b : Bound) (none bs : List Bound) → none ≡ [] → bs ≡ none ++ b ∷ [] → AsksBound p alias name b → AsksAll p alias name bs
+asks_one p alias name b none bs empty is one =
+    record { asks = λ w m holds. ap (λ l. meets_all l (cell_named (m alias) name)) (is ∙ ap (λ l. l ++ b ∷ []) empty) ∙ ap (λ d. d && true) (one.asks w m holds) }

@@ -6,3 +6,4 @@ pub mod Ranged
 pub mod RowTests
 pub mod Sieves
 pub mod Sifted
+pub mod Walked

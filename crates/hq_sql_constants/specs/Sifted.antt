@@ -23,6 +23,9 @@ use Rattle.hq_sql_access.specs.declared.scope.Source.TheVariants as source
 use Rattle.hq_sql_access.specs.declared.stages.Parts.{Parts}
 use Rattle.hq_sql_access.specs.declared.stored.Stored.{Stored}
 use Rattle.hq_sql_constants.specs.declared.marked.Constants.{Constants}
+use Rattle.hq_sql_constants.specs.declared.sifted.Left.{Left}
+use Rattle.hq_sql_constants.specs.declared.sifted.Left.TheVariants.{At, Chosen}
+use Rattle.hq_sql_scans.specs.Ordered.{places_looked}
 use Rattle.hq_sql_scans.specs.Positions.{arranged, kept_of, positions_of, rows_at}
 use Rattle.hq_sql_scans.specs.declared.ordered.Looked.{Looked}
 use Rattle.hq_sql_scans.specs.declared.ordered.Looked.TheVariants.{Arranged, Sorted, Unsorted}
@@ -33,13 +36,13 @@ pub record KeepsSame (w : World) (js : JoinTrees) (alias : List ℕ) (f : Filter
   pub same : (n : Names) → kept_of js w n alias (kept f w) rows ≡ kept_of js w n alias (kept f w) others
 
 -- over the tables that are joined WHERE keeps the same of the rows of a source at these places as at those at which a scan looks
-abbrev pub KeepsSameAt : Pinned → List Join → (alias : List ℕ) → FilterTree → Source → Positions → Vec ℕ → Type 0
+abbrev pub KeepsSameAt : Pinned → List Join → (alias : List ℕ) → FilterTree → Source → Positions → (places : List ℕ) → Type 0
 KeepsSameAt world joins alias f from positions places =
-    KeepsSame (world_of world) (joins_of (map join_view joins)) alias f (map (row_in from) places.items) (rows_at from positions)
+    KeepsSame (world_of world) (joins_of (map join_view joins)) alias f (map (row_in from) places) (rows_at from positions)
 
 -- the same of a condition and a table, where places were found
 abbrev pub Sifts : Pinned → List Join → (alias : List ℕ) → Pred → Bor Stored → Positions → Option (Vec ℕ) → Type 0
-Sifts world joins alias p stored positions found = IfSome found (KeepsSameAt world joins alias (filter (pred_view p)) (source.Stored stored) positions)
+Sifts world joins alias p stored positions found = IfSome found (λ places. KeepsSameAt world joins alias (filter (pred_view p)) (source.Stored stored) positions places.items)
 
 -- these are the constants, each a row of one value
 pub record AreConstants (vs : List Val) (s : Constants) : Type 0 where
@@ -75,11 +78,10 @@ pub record MarksAll (rows : List (List Val)) (columns : List ℕ) (vs : List Val
   pub count : length marks ≡ length rows
   pub none : (t : ℕ) → t < length rows → slice_index_or marks t false ≡ false → list_any (λ v. has_key columns (cell_of v ∷ []) (slice_index_or rows t [])) vs ≡ false
 
--- the places at which a scan looks
-abbrev pub places_looked : Looked → Positions
-places_looked (Arranged positions) = positions
-places_looked (Sorted positions) = positions
-places_looked (Unsorted positions) = positions
+-- the places that are left
+abbrev pub places_left : Left → List ℕ
+places_left (At positions) = positions_of positions
+places_left (Chosen places) = places.items
 
 -- other places, which stand as those did
 abbrev pub with_places : Looked → Positions → Looked
@@ -87,10 +89,9 @@ with_places (Arranged at) positions = Arranged positions
 with_places (Sorted at) positions = Sorted positions
 with_places (Unsorted at) positions = Unsorted positions
 
--- the second places are those that are left of the first ones, in the same order
-abbrev pub IsLeft : Looked → Option (Vec ℕ) → Looked → Type 0
-IsLeft looked None again = again ≡ looked
-IsLeft looked (Some places) again = (again ≡ with_places looked (places_looked again)) × (positions_of (places_looked again) ≡ places.items)
+-- the second places are those that are left, and stand as the first ones do
+abbrev pub IsLeft : Looked → Left → Looked → Type 0
+IsLeft looked left again = (again ≡ with_places looked (places_looked again)) × (positions_of (places_looked again) ≡ places_left left)
 
 -- how places stand: as ORDER BY and DISTINCT ON leave them, as ORDER BY does, or in no order
 abbrev pub as_looked : Parts → Looked → List Names → List Names

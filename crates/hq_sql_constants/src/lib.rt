@@ -15,10 +15,11 @@ mod row_test;
 mod sieve;
 mod sifted;
 mod spans;
+mod walked;
 mod worth;
 
 pub use plain::{cell_in, constant};
 pub use row_test::{RowTest, one_holds, tests_of};
 pub use sieve::{Sieve, Verdict, sieve_of, verdict_at};
-pub use sifted::{left_of, with_left};
+pub use sifted::{Left, left_of, with_left};
 pub use worth::is_worth_finding;

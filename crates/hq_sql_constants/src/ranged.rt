@@ -151,50 +151,58 @@ fn bounds_among<'d>(
     Ok(bounds)
 }
 
-// The column that they ask to meet comparisons, with these.
-#[tactic(auto, using(crate::proofs::Ranges::asks_range))]
-fn of_all<'d>(
-    alloc: Global,
-    preds: &'d PredList,
-    rows: &Rows,
-    columns: &[Column],
-    alias: &Txt,
-) -> Result<Option<Ranged<'d>>, Memory>
-    ensures { IfOk result (λ found. IfSome found (λ r. AsksRange (all_of (preds_of (map pred_view preds.now.items))) alias.now r.name.now r.bounds.items)) }
-{
-    let Some(name) = first_name(preds, rows, columns, alias) else {
-        return Ok(None);
-    };
-    let bounds = bounds_among(alloc, preds, alias, name)?;
-    if bounds.is_empty() {
-        return Ok(None);
-    }
-    Ok(Some(Ranged { name, bounds }))
-}
-
-// The column that a test asks to meet a comparison, with this.
-#[tactic(auto, using(crate::proofs::Ranges::asks_one))]
-fn of_one<'d>(
+// The comparison that a test asks the column to meet, where it is one.
+#[tactic(auto, using(crate::proofs::Ranges::asks_nothing, crate::proofs::Ranges::asks_one))]
+fn bounds_of<'d>(
     alloc: Global,
     pred: &'d Pred,
-    rows: &Rows,
-    columns: &[Column],
     alias: &Txt,
-) -> Result<Option<Ranged<'d>>, Memory>
-    ensures { IfOk result (λ found. IfSome found (λ r. AsksRange (pred_view pred.now) alias.now r.name.now r.bounds.items)) }
+    name: &Txt,
+) -> Result<Vec<Bound<'d>>, Memory>
+    ensures { IfOk result (λ bounds. AsksAll (pred_view pred.now) alias.now name.now bounds.items) }
 {
-    let Some(name) = name_of(pred, rows, columns, alias) else {
-        return Ok(None);
-    };
-    let Some(bound) = of_pred(pred, alias, name) else {
-        return Ok(None);
-    };
-    let mut bounds = Vec::with_capacity(alloc, 1)?;
-    bounds.push(bound)?;
-    Ok(Some(Ranged { name, bounds }))
+    let mut bounds = Vec::new(alloc);
+    if let Some(bound) = of_pred(pred, alias, name) {
+        bounds.push(bound)?;
+    }
+    Ok(bounds)
+}
+
+/// The comparisons with constants that a condition asks a column of an alias to meet.
+pub(crate) fn bounds_in<'d>(
+    alloc: Global,
+    pred: &'d Pred,
+    alias: &Txt,
+    name: &Txt,
+) -> Result<Vec<Bound<'d>>, Memory>
+    ensures { IfOk result (λ bounds. AsksAll (pred_view pred.now) alias.now name.now bounds.items) }
+{
+    match pred {
+        Pred::And(preds) => bounds_among(alloc, preds, alias, name),
+        Pred::True
+        | Pred::False
+        | Pred::Test { .. }
+        | Pred::Not(_)
+        | Pred::Or(_)
+        | Pred::Exists(_) => bounds_of(alloc, pred, alias, name),
+    }
+}
+
+// The name of the first column with an index that a condition compares with a constant.
+fn named_in<'d>(pred: &'d Pred, rows: &Rows, columns: &[Column], alias: &Txt) -> Option<&'d Txt> {
+    match pred {
+        Pred::And(preds) => first_name(preds, rows, columns, alias),
+        Pred::True
+        | Pred::False
+        | Pred::Test { .. }
+        | Pred::Not(_)
+        | Pred::Or(_)
+        | Pred::Exists(_) => name_of(pred, rows, columns, alias),
+    }
 }
 
 /// The column of an alias, with an index over it alone, that a condition compares with constants, with these comparisons.
+#[tactic(auto, using(crate::proofs::Ranges::asks_range))]
 pub(crate) fn ranged_in<'d>(
     alloc: Global,
     pred: &'d Pred,
@@ -204,13 +212,12 @@ pub(crate) fn ranged_in<'d>(
 ) -> Result<Option<Ranged<'d>>, Memory>
     ensures { IfOk result (λ found. IfSome found (λ r. AsksRange (pred_view pred.now) alias.now r.name.now r.bounds.items)) }
 {
-    match pred {
-        Pred::And(preds) => of_all(alloc, preds, rows, columns, alias),
-        Pred::True
-        | Pred::False
-        | Pred::Test { .. }
-        | Pred::Not(_)
-        | Pred::Or(_)
-        | Pred::Exists(_) => of_one(alloc, pred, rows, columns, alias),
+    let Some(name) = named_in(pred, rows, columns, alias) else {
+        return Ok(None);
+    };
+    let bounds = bounds_in(alloc, pred, alias, name)?;
+    if bounds.is_empty() {
+        return Ok(None);
     }
+    Ok(Some(Ranged { name, bounds }))
 }

@@ -5,11 +5,13 @@ ghost use Rattle.hq_load_index.specs.Indexes.{IsOver, columns_of};
 ghost use Rattle.hq_sql_constants.specs.Listed.{AsksOneOf};
 ghost use Rattle.hq_sql_constants.specs.Patterns.{AsksLike};
 ghost use Rattle.hq_sql_constants.specs.Ranged.{AsksRange};
-ghost use Rattle.hq_sql_constants.specs.Sifted.{IsLeft, KeepsSameAt, Sifts, places_looked, with_places};
+ghost use Rattle.hq_sql_constants.specs.Sifted.{IsLeft, KeepsSameAt, Sifts, places_left, with_places};
 ghost use Rattle.hq_sql_access.specs.Equations.{is_joined};
 ghost use Rattle.hq_sql_access.specs.Lent.{rows_lent};
 ghost use Rattle.hq_sql_access.specs.View.{world_of};
 ghost use Rattle.hq_sql_access.specs.declared.scope.Source.TheVariants as source;
+ghost use Rattle.hq_sql_scans.specs.Ordered.{places_looked};
+ghost use Rattle.hq_sql_scans.specs.Positions.{WalksRows};
 ghost use Rattle.hq_sql_tree.specs.Tree.{filter as filtered, joins_of};
 ghost use Rattle.hq_sql_tree.specs.View.{filter_view, join_view, pred_view};
 
@@ -18,6 +20,7 @@ use crate::marked::{constants_of, index_over, marks_by, places_marked, places_wi
 use crate::patterns::{Likened, likened_in, places_like};
 use crate::ranged::{Ranged, ranged_in};
 use crate::spans::{places_between, span_of};
+use crate::walked::in_range;
 use crate::worth::{are_all, are_few, is_narrow, looks_at_all};
 use hq_base::{Memory, Txt};
 use hq_load_index::Index;
@@ -27,7 +30,7 @@ use hq_sql_access::equations::{first_named, is_joined};
 use hq_sql_access::pinned::Pinned;
 use hq_sql_access::scope::Source;
 use hq_sql_access::stored::Stored;
-use hq_sql_scans::ordered::Looked;
+use hq_sql_scans::ordered::{Looked, places_looked};
 use hq_sql_scans::positions::Positions;
 use hq_sql_tree::{Join, Pred};
 use std::alloc::Global;
@@ -90,7 +93,7 @@ fn sifted_by_index<'d>(
     requires first { position (λ c. bytes_eq c.name asked.now.name.now) stored.now.table.now.columns ≡ Some column }
     requires over { IsOver rows.now index.now }
     requires columns { columns_of index.now ≡ column ∷ [] }
-    ensures { IfOk result (KeepsSameAt world.now joins.now alias.now (filtered (pred_view pred.now)) (source.Stored stored.entry) positions.entry) }
+    ensures { IfOk result (λ places. KeepsSameAt world.now joins.now alias.now (filtered (pred_view pred.now)) (source.Stored stored.entry) positions.entry places.items) }
 {
     let values = asked.values.as_slice();
     let marks = marks_by(alloc, rows, index, values)?;
@@ -300,7 +303,7 @@ fn sifted<'s, 'd>(
     whole: bool,
     world: &Pinned<'_>,
 ) -> Result<Option<Vec<u32>>, Memory>
-    ensures { IfOk result (λ found. IfSome found (KeepsSameAt world.now joins.now alias.now (filter_view filter.now) source.entry positions.entry)) }
+    ensures { IfOk result (λ found. IfSome found (λ places. KeepsSameAt world.now joins.now alias.now (filter_view filter.now) source.entry positions.entry places.items)) }
 {
     let (Source::Stored(stored), Some(pred)) = (source, filter) else {
         return Ok(None);
@@ -311,42 +314,38 @@ fn sifted<'s, 'd>(
     sifted_rows(alloc, stored, alias, joins, pred, positions, whole, world)
 }
 
-// The places at which a scan looks, however they stand.
-fn places_looked(looked: Looked<'_>) -> Positions<'_>
-    ensures { result ≡ places_looked looked.entry }
-{
-    match looked {
-        Looked::Arranged(positions) => positions,
-        Looked::Sorted(positions) => positions,
-        Looked::Unsorted(positions) => positions,
-    }
+/// The places at which a scan looks, or those of them at which WHERE may keep a row.
+#[derive(Drop)]
+pub enum Left<'d> {
+    /// As they stand in an index or a table.
+    At(Positions<'d>),
+    /// Chosen one by one.
+    Chosen(Vec<u32>),
 }
 
-/// Those of the places at which a scan looks that WHERE may keep a row at, where it asks a column to be one of many constants, or in
-/// a range of few rows; None where all are to be tried.
+/// Those of the places at which a scan looks that WHERE may keep a row at: in the order of an index those in the range that WHERE asks
+/// for; of these, where it asks a column to be one of many constants, or in a range of few rows, those whose rows have it so.
 pub fn left_of<'s, 'd>(
     alloc: Global,
     source: Source<'s, 'd>,
     alias: &Txt,
     joins: &[Join],
     filter: &Option<Pred>,
-    looked: Looked<'_>,
+    looked: Looked<'d>,
     limit: Option<u64>,
     world: &Pinned<'_>,
-) -> Result<Option<Vec<u32>>, Memory>
-    ensures { IfOk result
-        (λ found. IfSome found (KeepsSameAt world.now joins.now alias.now (filter_view filter.now) source.entry (places_looked looked.entry))) }
+) -> Result<Left<'d>, Memory>
+    requires { WalksRows source (places_looked looked) }
+    ensures { IfOk result (λ left. KeepsSameAt world.now joins.now alias.now (filter_view filter.now) source.entry (places_looked looked.entry) (places_left left)) }
 {
-    sifted(
-        alloc,
-        source,
-        alias,
-        joins,
-        filter,
-        places_looked(looked),
-        looks_at_all(looked, limit),
-        world,
-    )
+    let whole = looks_at_all(looked, limit);
+    let positions = in_range(alloc, source, alias, joins, filter, places_looked(looked))?;
+    match sifted(
+        alloc, source, alias, joins, filter, positions, whole, world,
+    )? {
+        Some(places) => Ok(Left::Chosen(places)),
+        None => Ok(Left::At(positions)),
+    }
 }
 
 // Other places, which stand as those did.
@@ -360,12 +359,12 @@ fn with_places<'p>(looked: Looked<'p>, positions: Positions<'p>) -> Looked<'p>
     }
 }
 
-/// The places at which a scan looks, or those that are left of them.
-pub fn with_left<'p>(looked: Looked<'p>, left: &'p Option<Vec<u32>>) -> Looked<'p>
+/// Those that are left of the places at which a scan looks, which stand as those did.
+pub fn with_left<'p>(looked: Looked<'p>, left: &'p Left<'p>) -> Looked<'p>
     ensures { IsLeft looked.entry left.now result }
 {
     match left {
-        None => looked,
-        Some(places) => with_places(looked, Positions::Entries(places.as_slice())),
+        Left::At(positions) => with_places(looked, *positions),
+        Left::Chosen(places) => with_places(looked, Positions::Entries(places.as_slice())),
     }
 }

@@ -138,7 +138,10 @@ fn are_few_of_all(rows: &Rows, positions: Positions<'_>, found: &[u32]) -> bool
 {
     match positions {
         Positions::All(number) => number == rows.len() && found.len() <= FEW,
-        Positions::Entries(_) | Positions::Ordered(_) | Positions::Backward(_) => false,
+        Positions::Entries(_)
+        | Positions::Ordered(_)
+        | Positions::Backward(_)
+        | Positions::Reversed(_) => false,
     }
 }
 

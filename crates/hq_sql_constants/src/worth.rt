@@ -34,7 +34,10 @@ pub(crate) fn are_few(positions: Positions<'_>) -> bool {
 pub(crate) fn are_all(positions: Positions<'_>) -> bool {
     match positions {
         Positions::All(_) => true,
-        Positions::Entries(_) | Positions::Ordered(_) | Positions::Backward(_) => false,
+        Positions::Entries(_)
+        | Positions::Ordered(_)
+        | Positions::Backward(_)
+        | Positions::Reversed(_) => false,
     }
 }
 
@@ -52,7 +55,10 @@ pub(crate) fn is_narrow(span: Between, positions: Positions<'_>, whole: bool) ->
     let number = span.to.saturating_sub(span.from);
     match positions {
         Positions::All(all) => number <= all / PART && (whole || number <= SMALL),
-        Positions::Entries(_) | Positions::Ordered(_) | Positions::Backward(_) => false,
+        Positions::Entries(_)
+        | Positions::Ordered(_)
+        | Positions::Backward(_)
+        | Positions::Reversed(_) => false,
     }
 }
 

@@ -1,5 +1,5 @@
 -- Rows in the order of an index, and what WHERE keeps of them, in the order of ORDER BY.
-use Rattle.std.proofs.Common.{◌≡◌, ◌∙◌, ◌==◌, ◌<◌, ◌≤◌, refl, sym, ap, ap₂, ℕ, suc, List, [], ◌∷◌, ◌++◌, map, filter, flat_map, length, reverse, get_or, Bool, true, false, cond, not, Some, Ordering, bytes_eq, arith}
+use Rattle.std.proofs.Common.{◌≡◌, ◌∙◌, ◌==◌, ◌<◌, ◌≤◌, refl, sym, ap, ap₂, subst, ℕ, suc, List, [], ◌∷◌, ◌++◌, map, filter, flat_map, length, reverse, get_or, Bool, true, false, cond, not, Some, Ordering, bytes_eq, arith}
 use Rattle.std.specs.List.{position}
 use Rattle.std.specs.Borrow.{Bor}
 use Rattle.std.specs.Cmp.{IsTotalOrder}
@@ -25,9 +25,10 @@ use Rattle.hq_sql_tree.specs.declared.expr.Expr.{Expr}
 use Rattle.hq_sql_tree.specs.declared.expr.Order.{Order}
 use Rattle.hq_sql_tree.specs.Meaning.{NamedRow, Scope as Names, World, cell_named, with_alias, named_row, joined, kept, order_cmp}
 use Rattle.hq_sql_access.specs.Equations.{is_joined, is_column}
-use Rattle.hq_sql_scans.specs.Ordered.{Finds, IsKey, OrdersBy, HasOrder, standing, towards, walked}
-use Rattle.hq_sql_scans.specs.Positions.{FindsArranged, kept_of, arranged, positions_of, rows_at}
+use Rattle.hq_sql_scans.specs.Ordered.{Finds, IsKey, OrdersBy, HasOrder, places_looked, standing, towards, walked}
+use Rattle.hq_sql_scans.specs.Positions.{FindsArranged, IsOverSource, WalksRows, kept_of, arranged, positions_of, rows_at}
 use Rattle.hq_sql_scans.specs.declared.positions.Positions.{Positions}
+use Rattle.hq_sql_scans.specs.declared.ordered.Looked.{Looked}
 use Rattle.hq_sql_scans.specs.declared.ordered.Looked.TheVariants.{Arranged, Sorted}
 use Rattle.hq_sql_access.specs.View.{scope_of, source_view}
 use Rattle.hq_sql_access.specs.declared.scope.Scope.{Scope as InScope}
@@ -205,6 +206,21 @@ standing_none (x ∷ es) n positions long e = absurd (false≢true (sym (ne_eqb 
 pub standing_some : (es : List Expr) (n : ℕ) (positions : Positions) → n ≡ length es → (n == 0) ≡ false → Sorted positions ≡ standing es positions
 standing_some [] n positions long e = let none : n ≡ 0 = long in absurd (false≢true (sym e ∙ ap (λ k. k == 0) none))
 standing_some (x ∷ es) n positions long e = refl
+
+-- they are looked at
+pub standing_places : (es : List Expr) (positions : Positions) → places_looked (standing es positions) ≡ positions
+standing_places [] positions = refl
+standing_places (e ∷ es) positions = refl
+
+-- what is walked in the order of an index over the rows of a table
+pub walked_rows : (desc : Bool) (source : Source) (index : Bor Index) → IsOverSource source index.now → WalksRows source (walked desc index)
+walked_rows false source index over = over
+walked_rows true source index over = over
+
+-- places that stand as ORDER BY leaves them walk what they walked
+pub standing_walks : (es : List Expr) (source : Source) (positions : Positions) (looked : Looked) → looked ≡ standing es positions → WalksRows source positions
+    → WalksRows source (places_looked looked)
+standing_walks es source positions looked is walks = subst (WalksRows source) (sym (ap places_looked is ∙ standing_places es positions)) walks
 
 pub stands : (js : JoinTrees) (scope : InScope) (alias : List ℕ) (parts : Parts) (source : Source) (positions : Positions) (es : List Expr) → es ≡ parts.distinct.now.items
     → FindsArranged js scope alias (filter_view parts.filter.now) [] (map order_view parts.order.now.items) source

@@ -71,6 +71,12 @@ abbrev pub standing : List Expr → Positions → Looked
 standing [] positions = Arranged positions
 standing (e ∷ es) positions = Sorted positions
 
+-- the places at which a scan looks
+abbrev pub places_looked : Looked → Positions
+places_looked (Arranged positions) = positions
+places_looked (Sorted positions) = positions
+places_looked (Unsorted positions) = positions
+
 -- at these places WHERE keeps all that it keeps; where they are arranged, ORDER BY and DISTINCT ON leave that as it is found, and where
 -- they are sorted, ORDER BY does
 abbrev pub Finds : JoinTrees → Scope → (alias : List ℕ) → Parts → Source → Looked → Type 0

@@ -1,5 +1,6 @@
 //! The places at which a scan looks, in the order that ORDER BY asks for where an index has it.
-ghost use Rattle.std.specs.Prelude.{◌≡◌, ◌<◌, ◌∷◌, [], true, false, map, length, IfOk, IfSome};
+ghost use Rattle.std.specs.Prelude.{◌≡◌, ◌<◌, ◌∷◌, [], true, false, map, length, Some, IfOk, IfSome, bytes_eq};
+ghost use Rattle.std.specs.List.{position};
 ghost use Rattle.hq_load_index.specs.Indexes.{IsOver};
 ghost use Rattle.hq_load_index.specs.declared.index.Index.{Index};
 ghost use Rattle.hq_model.specs.Database.{are_rows};
@@ -7,8 +8,8 @@ ghost use Rattle.hq_sql_tree.specs.Tree.{FilterTree, joins_of};
 ghost use Rattle.hq_sql_tree.specs.View.{expr_view, join_view, order_view};
 ghost use Rattle.hq_sql_access.specs.Lent.{rows_lent};
 ghost use Rattle.hq_load_index.specs.Repeats.{KeysDiffer};
-ghost use Rattle.hq_sql_scans.specs.Ordered.{IsKey, OrdersBy, OrdersRows, TiesAt, HasOrder, Finds, is_own, standing, walked};
-ghost use Rattle.hq_sql_scans.specs.Positions.{rows_at, FindsArranged};
+ghost use Rattle.hq_sql_scans.specs.Ordered.{IsKey, OrdersBy, OrdersRows, TiesAt, HasOrder, Finds, is_own, places_looked, standing, walked};
+ghost use Rattle.hq_sql_scans.specs.Positions.{rows_at, FindsArranged, IsOverSource, WalksRows};
 ghost use Rattle.hq_sql_access.specs.declared.scope.Scope.{Scope as InScope};
 
 use crate::positions::{Positions, looked_at};
@@ -41,6 +42,20 @@ fn are_alike(own: bool, asked: bool) -> bool
     own == asked
 }
 
+/// The name of a column of a table, where it is the first of that name.
+pub fn name_of(table: &Table, column: ColId) -> Option<&Txt>
+    ensures { IfSome result (λ name. position (λ c. bytes_eq c.name name.now) table.now.columns ≡ Some column) }
+{
+    let Some(named) = table.column(column) else {
+        return None;
+    };
+    if is_first(table.columns.as_slice(), column.at(), &named.name) {
+        Some(&named.name)
+    } else {
+        None
+    }
+}
+
 // Whether a sort key is a column of the alias, and has this direction.
 fn is_key(table: &Table, column: ColId, alias: &Txt, key: &Order, desc: bool) -> bool
     ensures { result ≡ true → IsKey desc table.now.columns alias.now column (order_view key.now) }
@@ -48,13 +63,10 @@ fn is_key(table: &Table, column: ColId, alias: &Txt, key: &Order, desc: bool) ->
     if !are_alike(key.desc, desc) {
         return false;
     }
-    let Some(named) = table.column(column) else {
-        return false;
-    };
-    if !is_first(table.columns.as_slice(), column.at(), &named.name) {
-        return false;
+    match name_of(table, column) {
+        Some(name) => is_column(&key.value, alias, name),
+        None => false,
     }
-    is_column(&key.value, alias, &named.name)
 }
 
 // Whether sort keys are these columns of the alias, in their order, and have this direction.
@@ -223,10 +235,11 @@ fn index_in_order<'s, 'd>(
     order: &[Order],
     desc: bool,
 ) -> Option<&'d Index>
-    ensures { IfSome result
+    ensures finds { IfSome result
         (λ index. (scope : InScope) (f : FilterTree)
         → FindsArranged (joins_of (map join_view joins.now)) scope alias.now f [] (map order_view order.now) source.entry
         (rows_at source.entry (walked desc index))) }
+    ensures over { IfSome result (λ index. IsOverSource source.entry index.now) }
 {
     if is_joined(joins, alias) {
         return None;
@@ -266,6 +279,17 @@ fn standing<'d>(distinct: &ExprList, positions: Positions<'d>) -> Looked<'d>
     Looked::Sorted(positions)
 }
 
+/// The places at which a scan looks, however they stand.
+pub fn places_looked(looked: Looked<'_>) -> Positions<'_>
+    ensures { result ≡ places_looked looked.entry }
+{
+    match looked {
+        Looked::Arranged(positions) => positions,
+        Looked::Sorted(positions) => positions,
+        Looked::Unsorted(positions) => positions,
+    }
+}
+
 /// The places at which a scan looks, in the order of an index, or against it, where ORDER BY asks for that and WHERE asks for no key.
 pub fn ordered_at<'s, 'd>(
     alloc: Global,
@@ -276,7 +300,8 @@ pub fn ordered_at<'s, 'd>(
     looked: &Cell<u64>,
     scope: &Scope<'_, 'd>,
 ) -> Result<Looked<'d>, Memory>
-    ensures { IfOk result (λ looked. Finds (joins_of (map join_view joins.now)) scope.now alias.now parts.entry source.entry looked) }
+    ensures finds { IfOk result (λ looked. Finds (joins_of (map join_view joins.now)) scope.now alias.now parts.entry source.entry looked) }
+    ensures walks { IfOk result (λ looked. WalksRows source.entry (places_looked looked)) }
 {
     let positions = looked_at(alloc, source, alias, joins, parts.filter, looked, scope)?;
     if parts.order.is_empty() {

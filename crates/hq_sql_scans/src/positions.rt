@@ -9,7 +9,7 @@ ghost use Rattle.hq_sql_access.specs.Lent.{rows_lent};
 ghost use Rattle.hq_sql_access.specs.View.{row_in};
 ghost use Rattle.hq_sql_access.specs.Equations.{is_joined};
 ghost use Rattle.hq_sql_access.specs.declared.scope.Source.TheVariants as source;
-ghost use Rattle.hq_sql_scans.specs.Positions.{positions_of, rows_at, FindsAll};
+ghost use Rattle.hq_sql_scans.specs.Positions.{positions_of, rows_at, FindsAll, WalksRows};
 
 use hq_base::{Memory, Txt};
 use hq_load_index::Index;
@@ -32,6 +32,8 @@ pub enum Positions<'d> {
     Ordered(&'d Index),
     /// The same, from the last one on.
     Backward(&'d Index),
+    /// Some of an index, from the last one on.
+    Reversed(&'d [u32]),
 }
 
 /// How many there are.
@@ -41,7 +43,7 @@ pub fn number_of(positions: Positions<'_>) -> usize
 {
     match positions {
         Positions::All(number) => number,
-        Positions::Entries(rows) => rows.len(),
+        Positions::Entries(rows) | Positions::Reversed(rows) => rows.len(),
         Positions::Ordered(index) | Positions::Backward(index) => index.len(),
     }
 }
@@ -57,6 +59,7 @@ pub fn position_at(positions: Positions<'_>, at: usize) -> usize
         Positions::Entries(rows) => rows[at] as usize,
         Positions::Ordered(index) => index.at(at),
         Positions::Backward(index) => index.at(index.len() - 1 - at),
+        Positions::Reversed(rows) => rows[rows.len() - 1 - at] as usize,
     }
 }
 
@@ -137,7 +140,8 @@ pub fn looked_at<'s, 'd>(
     looked: &Cell<u64>,
     scope: &Scope<'_, 'd>,
 ) -> Result<Positions<'d>, Memory>
-    ensures { IfOk result (λ positions. FindsAll (joins_of (map join_view joins.now)) scope.now alias.now (filter_view filter.now) source.entry (rows_at source.entry positions)) }
+    ensures finds { IfOk result (λ positions. FindsAll (joins_of (map join_view joins.now)) scope.now alias.now (filter_view filter.now) source.entry (rows_at source.entry positions)) }
+    ensures walks { IfOk result (WalksRows source.entry) }
 {
     if let (Source::Stored(stored), Some(pred)) = (source, filter) {
         if !is_joined(joins, alias) {

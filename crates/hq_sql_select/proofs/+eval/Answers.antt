@@ -342,7 +342,7 @@ scans::any_row-returns-then-keeps t c =
     let within : i < length ps = omega (arith, c.loop-turn-test.true, c.number_of-turn-end.ensures) in
     let lt : i < length rs = omega (arith, within, long) in
     let is : row ≡ get_or rs i [] = c.row_at.ensures ∙ ap (row_in c.args.source) c.position_at-position.ensures ∙ sym (at_place c.args.source ps i within) in
-    any_found js w n c.args.alias.now keeps rs i row here lt is refl (sym c.in_ok-keeps.ensures ∙ c.if-keeps.true) c.loop-turn.invariant ∙ ap has_items (c.in_ok-looked.ensures w)
+    any_found js w n c.args.alias.now keeps rs i row here lt is refl (sym c.in_ok-keeps.ensures ∙ c.if-keeps.true) c.loop-turn.invariant ∙ ap has_items (c.in_ok-looked.ensures.finds w)
 
 pub scans::any_row-loop-turn-preserved : goal.scans::any_row-loop-turn-preserved
 scans::any_row-loop-turn-preserved t c =
@@ -374,7 +374,7 @@ scans::any_row-returns t c =
     (kept (filter_view c.args.filter.now) w) l
     ≡ [])
     (take_all c.loop-turn.turn rs all) c.loop-turn.invariant in
-    ap has_items (sym none ∙ c.in_ok-looked.ensures w)
+    ap has_items (sym none ∙ c.in_ok-looked.ensures.finds w)
 
 pub scans::add_row-returns-then-has_no_join : goal.scans::add_row-returns-then-has_no_join
 scans::add_row-returns-then-has_no_join t c =
@@ -488,7 +488,7 @@ pages::page-returns-in-Arranged t c =
     let finds : keep (rows_at c.args.source c.in-Arranged.at) ≡ arranged D K (keep (source_view c.args.source)) =
     rw c.in-Arranged.is at
     (left_finds w js c.args.scope.now c.args.alias.now c.args.parts c.args.source c.in_ok-looked.looked c.in_ok-left.left
-    c.with_left-asked.result c.in_ok-looked.ensures c.in_ok-left.ensures c.with_left-asked.ensures) in
+    c.with_left-asked.result c.in_ok-looked.ensures.finds c.in_ok-left.ensures c.with_left-asked.ensures) in
     IfOk-weaker c.page_front.result _ _ (λ places h. h ∙ ap (λ l. limited c.args.limit (offset_by c.args.offset l)) finds) c.page_front.ensures
 
 pub pages::page-returns-in-Sorted : goal.pages::page-returns-in-Sorted
@@ -501,7 +501,7 @@ pages::page-returns-in-Sorted t c =
     let finds : keep (rows_at c.args.source c.in-Sorted.at) ≡ arranged [] K (keep (source_view c.args.source)) =
     rw c.in-Sorted.is at
     (left_finds w js c.args.scope.now c.args.alias.now c.args.parts c.args.source c.in_ok-looked.looked c.in_ok-left.left
-    c.with_left-asked.result c.in_ok-looked.ensures c.in_ok-left.ensures c.with_left-asked.ensures) in
+    c.with_left-asked.result c.in_ok-looked.ensures.finds c.in_ok-left.ensures c.with_left-asked.ensures) in
     IfOk-weaker c.page_grouped.result _ _ (λ places h. h ∙ ap (λ l. limited c.args.limit (offset_by c.args.offset (distinct_on D l))) finds) c.page_grouped.ensures
 
 pub pages::in_groups-returns : goal.pages::in_groups-returns
@@ -521,7 +521,7 @@ pages::page-returns-in-Some t c =
     let finds : keep (rows_at c.args.source c.in-Unsorted.at) ≡ keep (source_view c.args.source) =
     rw c.in-Unsorted.is at
     (left_finds w js c.args.scope.now c.args.alias.now c.args.parts c.args.source c.in_ok-looked.looked c.in_ok-left.left
-    c.with_left-asked.result c.in_ok-looked.ensures c.in_ok-left.ensures c.with_left-asked.ensures) in
+    c.with_left-asked.result c.in_ok-looked.ensures.finds c.in_ok-left.ensures c.with_left-asked.ensures) in
     IfOk-weaker c.page_top.result _ _
     (λ places h. h
     ∙ ap (λ l. limited c.args.limit (offset_by c.args.offset (distinct_on D (sort (order_cmp K) l))))

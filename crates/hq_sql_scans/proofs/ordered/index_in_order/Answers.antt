@@ -8,7 +8,7 @@ use Rattle.hq_sql_tree.specs.Meaning.{kept}
 use Rattle.hq_sql_access.specs.Equations.{is_joined}
 use Rattle.hq_sql_access.specs.Lent.{rows_lent}
 use Rattle.hq_sql_scans.specs.Ordered.{HasOrder, walked}
-use Rattle.hq_sql_scans.specs.Positions.{rows_at, FindsArranged}
+use Rattle.hq_sql_scans.specs.Positions.{IsOverSource, rows_at, FindsArranged}
 use Rattle.hq_sql_access.specs.View.{scope_of}
 use Rattle.hq_sql_access.specs.declared.scope.Scope.{Scope as InScope}
 use Rattle.hq_sql_access.specs.declared.scope.Source.TheVariants as source
@@ -27,4 +27,9 @@ returns-in-Stored c =
     let orders : (o : Option (Bor Index)) → IfSome o (λ index. HasOrder c.args.desc columns rows alias os index.now)
     → IfSome o (λ index. (scope : InScope) → (f : FilterTree) → FindsArranged js scope alias f [] os (source.Stored stored) (rows_at (source.Stored stored) (walked c.args.desc index))) =
     elim [ None ↦ λ h. h | Some index ↦ λ h. λ scope f w. ordered_is columns rows js w (scope_of scope w) alias (kept f w) c.args.desc os index h alone ] in
-    rw c.in-Stored.is (orders c.index_of_stored.result c.index_of_stored.ensures)
+    let overs : (o : Option (Bor Index)) → IfSome o (λ index. HasOrder c.args.desc columns rows alias os index.now) → IfSome o (λ index. IsOverSource (source.Stored stored) index.now) =
+    elim [ None ↦ λ h. h | Some index ↦ λ h. h.over ] in
+    record {
+      finds = rw c.in-Stored.is (orders c.index_of_stored.result c.index_of_stored.ensures);
+      over = rw c.in-Stored.is (overs c.index_of_stored.result c.index_of_stored.ensures);
+    }
