@@ -1,18 +1,19 @@
 //! Aggregates (PostgreSQL, aggregate functions). Each passes over NULL, and those that compare or add over JSON too.
-ghost use Rattle.std.specs.Prelude.{◌≡◌, ◌&&◌, map, filter, length, IfOk, OnOk, OnErr, FitsSigned, None, option_map, true};
+ghost use Rattle.std.specs.Prelude.{◌≡◌, map, filter, length, IfOk, OnErr, FitsSigned, None, true};
 ghost use Rattle.std.specs.Int.{w128};
-ghost use Rattle.std.specs.Ordering.{on};
 ghost use Rattle.hq_base.specs.Cells.{cell_cmp, same_cell, int_in};
-ghost use Rattle.hq_base.specs.Lists.{Ascends, firsts, sort};
+ghost use Rattle.hq_base.specs.Lists.{firsts, sort};
 ghost use Rattle.hq_base.specs.Aggregates.{is_counted, is_taken, first_cell, counted, summed, aggregated};
 ghost use Rattle.hq_base.specs.declared.aggregate.Aggregate.TheVariants.{Sum};
 ghost use Rattle.hq_sql_cells.specs.View.{cell_view};
 ghost use Rattle.hq_sql_cells.specs.Best.{best_cmp, is_better};
-ghost use Rattle.hq_sql_cells.specs.Totals.{total_after, SumsFit, starts_group};
+ghost use Rattle.hq_sql_cells.specs.Totals.{total_after, SumsFit};
 
 use crate::Cell;
+use crate::different::number_of_different;
 use crate::order::cell_cmp;
 use hq_base::{Aggregate, Memory};
+use std::alloc::Global;
 use std::cmp::Ordering;
 
 // Whether a plain count counts the cell.
@@ -25,8 +26,8 @@ fn is_counted(cell: &Cell<'_>) -> bool
     }
 }
 
-// Whether the cell is added or compared.
-fn is_taken(cell: &Cell<'_>) -> bool
+/// Whether the cell is added or compared.
+pub(crate) fn is_taken(cell: &Cell<'_>) -> bool
     ensures { result ≡ is_taken (cell_view cell.now) }
 {
     match cell {
@@ -37,12 +38,16 @@ fn is_taken(cell: &Cell<'_>) -> bool
 
 /// `count(e)`: how many cells are not NULL, or with `distinct` how many different ones there are, JSON left out, in
 /// n log n comparisons; only that may want memory.
-pub fn counted<'d>(distinct: bool, cells: Vec<Cell<'d>>) -> Result<Cell<'d>, Memory>
+pub fn counted<'d>(
+    alloc: Global,
+    distinct: bool,
+    cells: Vec<Cell<'d>>,
+) -> Result<Cell<'d>, Memory>
     ensures value { IfOk result (λ count. cell_view count ≡ counted distinct (map cell_view cells.entry.items)) }
     ensures memory { OnErr result (distinct ≡ true) }
 {
     let count = if distinct {
-        number_of_different(cells)?
+        number_of_different(alloc, cells)?
     } else {
         number_counted(&cells)
     };
@@ -59,48 +64,6 @@ fn number_counted(cells: &[Cell<'_>]) -> usize
         }
     }
     number
-}
-
-// Equal cells stand side by side once they are sorted.
-fn number_of_different(cells: Vec<Cell<'_>>) -> Result<usize, Memory>
-    ensures { IfOk result (λ number. number ≡ length (firsts same_cell (sort cell_cmp (filter is_taken (map cell_view cells.entry.items))))) }
-{
-    let mut sorted = cells;
-    sort_cells(&mut sorted)?;
-    Ok(number_of_groups(&sorted))
-}
-
-fn sort_cells<'d>(cells: &mut Vec<Cell<'d>>) -> Result<(), Memory>
-    ensures { OnOk result (cells.new.items ≡ sort (on cell_view cell_cmp) cells.old.items) }
-{
-    cells.sort_by(|left, right| cell_cmp(left, right))?;
-    Ok(())
-}
-
-// How many different cells are taken, where the cells ascend.
-fn number_of_groups<'s, 'd>(cells: &'s [Cell<'d>]) -> usize
-    requires { Ascends cell_cmp (map cell_view cells.now) }
-    ensures { result ≡ length (firsts same_cell (filter is_taken (map cell_view cells.now))) }
-{
-    let mut number = 0;
-    let mut last: Option<&'s Cell<'d>> = None;
-    for cell in cells {
-        if starts_group(last, cell) {
-            number += 1;
-            last = Some(cell);
-        }
-    }
-    number
-}
-
-// Whether a cell is taken and another one than the last that was taken.
-fn starts_group(last: Option<&Cell<'_>>, cell: &Cell<'_>) -> bool
-    ensures { result ≡ (is_taken (cell_view cell.now) && starts_group (option_map (λ c. cell_view c.now) last.entry) (cell_view cell.now)) }
-{
-    match last {
-        Some(last) => is_taken(cell) && cell_cmp(last, cell) != Ordering::Equal,
-        None => is_taken(cell),
-    }
 }
 
 fn int_in(cell: &Cell<'_>) -> i128

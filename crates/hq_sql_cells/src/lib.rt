@@ -3,6 +3,7 @@
 
 mod aggregate;
 mod cell;
+mod different;
 mod front;
 mod kept;
 mod order;

@@ -32,14 +32,20 @@ pub keys_are : (w : World) (columns : List Column) (alias : List ℕ) (p : PredT
     → IsKeyTest w columns alias p t.set.now t.columns.items → a ≡ atom.Keys t → IsAtom w columns alias p a
 keys_are w columns alias p t a h e = subst (IsAtom w columns alias p) (sym e) (record { says = λ row m here. h.says row m here })
 
-pub plain_is : (w : World) (columns : List Column) (alias : List ℕ) (p : PredTree) (t : RowTest)
+plain_is : (w : World) (columns : List Column) (alias : List ℕ) (p : PredTree) (t : RowTest)
     → IsAtom w columns alias p t.atom → t.negated ≡ false → IsTest w columns alias p t
 plain_is w columns alias p t h e = record { says = λ row m here. h.says row m here ∙ ap (λ b. negated_if b (told_by t.atom row)) (sym e) }
 
 -- a test that is negated says what the NOT of a condition is
-pub not_is : (w : World) (columns : List Column) (alias : List ℕ) (p : PredTree) (t : RowTest)
+not_is : (w : World) (columns : List Column) (alias : List ℕ) (p : PredTree) (t : RowTest)
     → IsAtom w columns alias p t.atom → t.negated ≡ true → IsTest w columns alias (tree.negation p) t
 not_is w columns alias p t h e = record { says = λ row m here. ap not3 (h.says row m here) ∙ ap (λ b. negated_if b (told_by t.atom row)) (sym e) }
+
+-- the test that a condition is, or that its NOT is
+pub signed_is : (w : World) (columns : List Column) (alias : List ℕ) (p : PredTree) (t : RowTest) (negated : Bool)
+    → IsAtom w columns alias p t.atom → t.negated ≡ negated → IsTest w columns alias (cond negated (tree.negation p) p) t
+signed_is w columns alias p t true = not_is w columns alias p t
+signed_is w columns alias p t false = plain_is w columns alias p t
 
 -- ---- some tests
 

@@ -1,5 +1,5 @@
 //! Tests of the rows of a table: the conditions that are tried at the values of a row, without a scope.
-ghost use Rattle.std.specs.Prelude.{◌≡◌, map, IfOk, IfSome};
+ghost use Rattle.std.specs.Prelude.{◌≡◌, cond, map, IfOk, IfSome};
 ghost use Rattle.hq_sql_access.specs.View.{world_of};
 ghost use Rattle.hq_sql_constants.specs.RowTests.{AreTests, IsAtom, IsTest, one_holds, told, told_by};
 ghost use Rattle.hq_sql_tree.specs.Tree.{any_of, negation, preds_of};
@@ -30,41 +30,8 @@ pub struct RowTest<'m, 'd> {
     pub atom: Atom<'m, 'd>,
 }
 
-// What a test of a column beside constants asks.
-#[tactic(auto, using(crate::proofs::RowTests::column_is))]
-fn column_atom<'m, 'd>(
-    alloc: Global,
-    pred: &'d Pred,
-    columns: &[Column],
-    alias: &Txt,
-    world: &'m Pinned<'d>,
-) -> Result<Option<Atom<'m, 'd>>, Memory>
-    ensures { IfOk result (λ found. IfSome found (IsAtom (world_of world.now) columns.now alias.now (pred_view pred.now))) }
-{
-    match test_of(alloc, pred, columns, alias)? {
-        Some(test) => Ok(Some(Atom::Column(test))),
-        None => Ok(None),
-    }
-}
-
-// What an EXISTS asks of which keys are known.
-#[tactic(auto, using(crate::proofs::RowTests::keys_are))]
-fn keys_atom<'m, 'd>(
-    alloc: Global,
-    pred: &'d Pred,
-    columns: &[Column],
-    alias: &Txt,
-    world: &'m Pinned<'d>,
-) -> Result<Option<Atom<'m, 'd>>, Memory>
-    ensures { IfOk result (λ found. IfSome found (IsAtom (world_of world.now) columns.now alias.now (pred_view pred.now))) }
-{
-    match key_test(alloc, pred, columns, alias, world)? {
-        Some(test) => Ok(Some(Atom::Keys(test))),
-        None => Ok(None),
-    }
-}
-
-// What a condition asks of a row.
+// What a condition asks of a row: a test of a column beside constants, or an EXISTS of which keys are known.
+#[tactic(auto, using(crate::proofs::RowTests::column_is, crate::proofs::RowTests::keys_are))]
 fn atom_of<'m, 'd>(
     alloc: Global,
     pred: &'d Pred,
@@ -75,53 +42,37 @@ fn atom_of<'m, 'd>(
     ensures { IfOk result (λ found. IfSome found (IsAtom (world_of world.now) columns.now alias.now (pred_view pred.now))) }
 {
     match pred {
-        Pred::Test { .. } => column_atom(alloc, pred, columns, alias, world),
-        Pred::Exists(_) => keys_atom(alloc, pred, columns, alias, world),
+        Pred::Test { .. } => match test_of(alloc, pred, columns, alias)? {
+            Some(test) => Ok(Some(Atom::Column(test))),
+            None => Ok(None),
+        },
+        Pred::Exists(_) => match key_test(alloc, pred, columns, alias, world)? {
+            Some(test) => Ok(Some(Atom::Keys(test))),
+            None => Ok(None),
+        },
         Pred::True | Pred::False | Pred::Not(_) | Pred::And(_) | Pred::Or(_) => Ok(None),
     }
 }
 
-// The test that the NOT of a condition is.
-#[tactic(auto, using(crate::proofs::RowTests::not_is))]
-fn test_under<'m, 'd>(
+// The test that a condition is, or that its NOT is.
+#[tactic(auto, using(crate::proofs::RowTests::signed_is))]
+fn signed_test<'m, 'd>(
     alloc: Global,
+    negated: bool,
     pred: &'d Pred,
     columns: &[Column],
     alias: &Txt,
     world: &'m Pinned<'d>,
 ) -> Result<Option<RowTest<'m, 'd>>, Memory>
-    ensures { IfOk result (λ found. IfSome found (IsTest (world_of world.now) columns.now alias.now (negation (pred_view pred.now)))) }
+    ensures { IfOk result (λ found. IfSome found (IsTest (world_of world.now) columns.now alias.now (cond negated (negation (pred_view pred.now)) (pred_view pred.now)))) }
 {
     match atom_of(alloc, pred, columns, alias, world)? {
-        Some(atom) => Ok(Some(RowTest {
-            negated: true,
-            atom,
-        })),
+        Some(atom) => Ok(Some(RowTest { negated, atom })),
         None => Ok(None),
     }
 }
 
-// The test that a condition is, which is no NOT.
-#[tactic(auto, using(crate::proofs::RowTests::plain_is))]
-fn plain_test<'m, 'd>(
-    alloc: Global,
-    pred: &'d Pred,
-    columns: &[Column],
-    alias: &Txt,
-    world: &'m Pinned<'d>,
-) -> Result<Option<RowTest<'m, 'd>>, Memory>
-    ensures { IfOk result (λ found. IfSome found (IsTest (world_of world.now) columns.now alias.now (pred_view pred.now))) }
-{
-    match atom_of(alloc, pred, columns, alias, world)? {
-        Some(atom) => Ok(Some(RowTest {
-            negated: false,
-            atom,
-        })),
-        None => Ok(None),
-    }
-}
-
-// The test that a condition is, or its NOT.
+// The test that a condition is, NOT included.
 fn row_test<'m, 'd>(
     alloc: Global,
     pred: &'d Pred,
@@ -132,13 +83,13 @@ fn row_test<'m, 'd>(
     ensures { IfOk result (λ found. IfSome found (IsTest (world_of world.now) columns.now alias.now (pred_view pred.now))) }
 {
     match pred {
-        Pred::Not(inner) => test_under(alloc, inner, columns, alias, world),
+        Pred::Not(inner) => signed_test(alloc, true, inner, columns, alias, world),
         Pred::Test { .. }
         | Pred::True
         | Pred::False
         | Pred::And(_)
         | Pred::Or(_)
-        | Pred::Exists(_) => plain_test(alloc, pred, columns, alias, world),
+        | Pred::Exists(_) => signed_test(alloc, false, pred, columns, alias, world),
     }
 }
 

@@ -131,7 +131,7 @@ fn taken_at<'d>(
             value: expr,
             distinct,
         } => match values_of(alloc, expr, group, world, scope)? {
-            Some(cells) => Ok(Some(counted(*distinct, cells)?)),
+            Some(cells) => Ok(Some(counted(alloc, *distinct, cells)?)),
             None => Ok(None),
         },
         Agg::Take {

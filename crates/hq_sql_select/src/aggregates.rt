@@ -34,6 +34,7 @@ pub fn taken<'d>(
             value: expr,
             distinct,
         } => counted(
+            alloc,
             *distinct,
             each_value(alloc, expr, world, alias, rows, scope)?,
         ),

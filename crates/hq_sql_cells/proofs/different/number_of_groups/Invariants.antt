@@ -3,7 +3,7 @@ use Rattle.hq_base.specs.Aggregates.{is_taken}
 use Rattle.hq_base.specs.Cells.{same_cell}
 use Rattle.hq_sql_cells.specs.View.{cell_view}
 use Rattle.hq_sql_cells.proofs.Groups.{pass_from}
-use Rattle.hq_sql_cells.proofs.aggregate.number_of_groups.Given as goal
+use Rattle.hq_sql_cells.proofs.different.number_of_groups.Given as goal
 
 -- the groups so far, and those that one pass finds from here on
 abbrev pub invariant-loop-cell : goal.invariant-loop-cell

@@ -6,7 +6,7 @@ use Rattle.hq_base.specs.Cells.{cell_cmp, same_cell}
 use Rattle.hq_base.specs.Lists.{Ascends, firsts}
 use Rattle.hq_sql_cells.specs.View.{cell_view}
 use Rattle.hq_sql_cells.proofs.Groups.{sorted_cells}
-use Rattle.hq_sql_cells.proofs.aggregate.number_of_different.Goals as goal
+use Rattle.hq_sql_cells.proofs.different.different_cells.Goals as goal
 
 pub number_of_groups-requires : goal.number_of_groups-requires
 number_of_groups-requires c =
