@@ -94,9 +94,13 @@ pub enum Function {
     Take(Aggregate),
 }
 
-fn made_of<'d>(function: Function, cells: Vec<Cell<'d>>) -> Result<Cell<'d>, Memory> {
+fn made_of<'d>(
+    alloc: Global,
+    function: Function,
+    cells: Vec<Cell<'d>>,
+) -> Result<Cell<'d>, Memory> {
     match function {
-        Function::Count { distinct } => counted(distinct, cells),
+        Function::Count { distinct } => counted(alloc, distinct, cells),
         Function::Take(aggregate) => aggregated(aggregate, cells),
     }
 }
@@ -108,7 +112,7 @@ fn push_aggregate(
     words: &mut Words,
 ) -> Result<(), Stop> {
     let cells = cells(alloc, values)?;
-    push_cell(alloc, made_of(function, cells)?, words)
+    push_cell(alloc, made_of(alloc, function, cells)?, words)
 }
 
 /// What these functions make of the cells of a case.
