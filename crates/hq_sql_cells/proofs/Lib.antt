@@ -1,7 +1,7 @@
 pub mod Truths
 pub mod KeyOrders
 pub mod Groups
-pub mod Different
+pub mod Numbers
 pub mod Fresh
 pub mod SeenGroups
 pub mod BestOnes

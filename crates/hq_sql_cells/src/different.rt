@@ -25,7 +25,7 @@ pub(crate) fn number_of_different(alloc: Global, cells: Vec<Cell<'_>>) -> Result
 }
 
 // The whole numbers that cells are, without the NULLs; None where there is another cell.
-#[tactic(auto, using(crate::proofs::Different::no_numbers, crate::proofs::Different::numbers_taken, crate::proofs::Different::numbers_passed, crate::proofs::Different::numbers_end))]
+#[tactic(auto, using(crate::proofs::Numbers::numbers_taken, crate::proofs::Numbers::numbers_passed, crate::proofs::Numbers::numbers_end))]
 fn numbers_of(alloc: Global, cells: &[Cell<'_>]) -> Result<Option<Vec<i128>>, Memory>
     ensures { IfOk result (λ found. IfSome found (λ numbers. map int numbers.items ≡ filter is_taken (map cell_view cells.now))) }
 {
@@ -41,7 +41,7 @@ fn numbers_of(alloc: Global, cells: &[Cell<'_>]) -> Result<Option<Vec<i128>>, Me
 }
 
 fn different_numbers(numbers: Vec<i128>) -> Result<usize, Memory>
-    ensures { IfOk result (λ number. number ≡ length (firsts same_cell (sort cell_cmp (map int numbers.entry.items)))) }
+    ensures { IfOk result (λ number. number ≡ length (firsts same_cell (sort cell_cmp (map int numbers.items)))) }
 {
     let mut sorted = numbers;
     sort_numbers(&mut sorted)?;
@@ -56,6 +56,7 @@ fn sort_numbers(numbers: &mut Vec<i128>) -> Result<(), Memory>
 }
 
 // How many different numbers there are, where they ascend.
+#[tactic(auto, using(crate::proofs::Numbers::runs_more, crate::proofs::Numbers::runs_stay))]
 fn number_of_runs(numbers: &[i128]) -> usize
     requires { Ascends int_cmp numbers.now }
     ensures { result ≡ length (firsts same_number numbers.now) }

@@ -4,7 +4,7 @@ use Rattle.std.proofs.lemmas.Cmp.{int_cmp_total}
 use Rattle.hq_base.proofs.Sorts.{ascends_sort}
 use Rattle.hq_base.specs.Lists.{Ascends, firsts, sort}
 use Rattle.hq_sql_cells.specs.Totals.{same_number}
-use Rattle.hq_sql_cells.proofs.Different.{runs_are_groups}
+use Rattle.hq_sql_cells.proofs.Numbers.{runs_are_groups}
 use Rattle.hq_sql_cells.proofs.different.different_numbers.Goals as goal
 
 pub number_of_runs-requires : goal.number_of_runs-requires

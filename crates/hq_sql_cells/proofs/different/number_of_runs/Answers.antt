@@ -1,5 +1,5 @@
 use Rattle.std.proofs.Common.{rules}
-use Rattle.hq_sql_cells.proofs.Different.{runs_end}
+use Rattle.hq_sql_cells.proofs.Numbers.{runs_end}
 use Rattle.hq_sql_cells.proofs.different.number_of_runs.Goals as goal
 
 pub returns : goal.returns

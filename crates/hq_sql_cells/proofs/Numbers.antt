@@ -1,5 +1,5 @@
 -- Different whole numbers among cells, counted as numbers.
-use Rattle.std.proofs.Common.{◌≡◌, ◌∙◌, ◌<◌, ◌≤◌, ◌+◌, ℕ, List, [], ◌∷◌, ◌++◌, map, filter, length, take, drop, get_or, Bool, true, false, cond, Option, None, Some, is_eq, refl, sym, ap, ap₂, add-one, arith}
+use Rattle.std.proofs.Common.{◌≡◌, ◌∙◌, ◌<◌, ◌≤◌, ◌+◌, ℕ, suc, List, [], ◌∷◌, ◌++◌, map, filter, length, take, drop, get_or, Bool, true, false, cond, not, Option, None, Some, is_eq, refl, sym, ap, ap₂, add-one, arith}
 use Rattle.std.specs.Prelude.{ℤ}
 use Rattle.std.specs.Ordering.{int_cmp}
 use Rattle.std.proofs.Math.ListN.{drop_of_length-le}
@@ -13,10 +13,11 @@ use Rattle.hq_base.specs.Lists.{Ascends, Each, firsts, sort}
 use Rattle.hq_base.proofs.Lists.{each_all, firsts_map_on}
 use Rattle.hq_base.proofs.Sorts.{sort_map, sort_on}
 use Rattle.hq_model.proofs.CellOrders.{cell_cmp_between}
-use Rattle.hq_sql_cells.specs.Totals.{same_number}
+use Rattle.hq_sql_cells.specs.Totals.{same_number, starts_run}
 use Rattle.hq_sql_cells.specs.View.{cell_view}
 use Rattle.hq_sql_cells.specs.declared.cell.Cell.{Cell}
-use Rattle.hq_sql_cells.proofs.Groups.{firsts_in_one_pass, pass_from}
+use Rattle.hq_sql_cells.proofs.Groups.{firsts_in_one_pass, pass, pass_from}
+use Rattle.hq_sql_tree.proofs.Next.{next_item}
 
 -- ---- the numbers that cells are
 
@@ -52,6 +53,32 @@ pub numbers_end : (cells : List Cell) (i : ℕ) (ns : List ℤ) → length cells
 numbers_end cells i ns le so_far = so_far ∙ ap (λ l. filter is_taken (map cell_view l)) (take_all i cells le)
 
 -- ---- the different ones
+
+-- the next one is another one than the last
+pub runs_more : (n i more : ℕ) (last : Option ℤ) (x : ℤ) (ns : List ℤ) (total : ℕ) → i < length ns → x ≡ get_or ns i x → starts_run last x ≡ true
+    → n + length (pass_from same_number last (drop i ns)) ≡ total → more ≡ n + 1 → more + length (pass_from same_number (Some x) (drop (i + 1) ns)) ≡ total
+runs_more n i more last x ns total lt is other so_far grown =
+    let rest = drop (i + 1) ns in
+    let begins : (l : Option ℤ) → starts_run l x ≡ true → length (pass_from same_number l (x ∷ rest)) ≡ suc (length (pass_from same_number (Some x) rest)) =
+    elim [
+      | None ↦ λ e. refl
+      | Some y ↦ λ e. (let go : (b : Bool) → not b ≡ true → length (cond b (pass same_number y rest) (x ∷ pass same_number x rest)) ≡ suc (length (pass same_number x rest)) = elim [ true ↦ λ k. cc | false ↦ λ k. refl ] in go (same_number y x) e)
+    ] in
+    let here : n + length (pass_from same_number last (x ∷ rest)) ≡ total = ap (λ l. n + length (pass_from same_number last l)) (sym (next_item ns i x lt is)) ∙ so_far in
+    let long = begins last other in
+    omega (arith, here, long, grown)
+
+-- or the same
+pub runs_stay : (n i : ℕ) (last : Option ℤ) (x : ℤ) (ns : List ℤ) (total : ℕ) → i < length ns → x ≡ get_or ns i x → starts_run last x ≡ false
+    → n + length (pass_from same_number last (drop i ns)) ≡ total → n + length (pass_from same_number last (drop (i + 1) ns)) ≡ total
+runs_stay n i last x ns total lt is other so_far =
+    let rest = drop (i + 1) ns in
+    let stays : (l : Option ℤ) → starts_run l x ≡ false → pass_from same_number l (x ∷ rest) ≡ pass_from same_number l rest =
+    elim [
+      | None ↦ λ e. cc
+      | Some y ↦ λ e. (let go : (b : Bool) → not b ≡ false → cond b (pass same_number y rest) (x ∷ pass same_number x rest) ≡ pass same_number y rest = elim [ true ↦ λ k. refl | false ↦ λ k. cc ] in go (same_number y x) e)
+    ] in
+    ap (λ l. n + length l) (sym (stays last other)) ∙ ap (λ l. n + length (pass_from same_number last l)) (sym (next_item ns i x lt is)) ∙ so_far
 
 -- their number, once the pass has come to the end
 pub runs_end : (n i : ℕ) (last : Option ℤ) (ns : List ℤ) → length ns ≤ i
