@@ -38,11 +38,7 @@ pub(crate) fn is_taken(cell: &Cell<'_>) -> bool
 
 /// `count(e)`: how many cells are not NULL, or with `distinct` how many different ones there are, JSON left out, in
 /// n log n comparisons; only that may want memory.
-pub fn counted<'d>(
-    alloc: Global,
-    distinct: bool,
-    cells: Vec<Cell<'d>>,
-) -> Result<Cell<'d>, Memory>
+pub fn counted<'d>(alloc: Global, distinct: bool, cells: Vec<Cell<'d>>) -> Result<Cell<'d>, Memory>
     ensures value { IfOk result (λ count. cell_view count ≡ counted distinct (map cell_view cells.entry.items)) }
     ensures memory { OnErr result (distinct ≡ true) }
 {

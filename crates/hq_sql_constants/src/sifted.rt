@@ -340,9 +340,7 @@ pub fn left_of<'s, 'd>(
 {
     let whole = looks_at_all(looked, limit);
     let positions = in_range(alloc, source, alias, joins, filter, places_looked(looked))?;
-    match sifted(
-        alloc, source, alias, joins, filter, positions, whole, world,
-    )? {
+    match sifted(alloc, source, alias, joins, filter, positions, whole, world)? {
         Some(places) => Ok(Left::Chosen(places)),
         None => Ok(Left::At(positions)),
     }
