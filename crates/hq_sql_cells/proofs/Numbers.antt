@@ -1,6 +1,6 @@
 -- Different whole numbers among cells, counted as numbers.
-use Rattle.std.proofs.Common.{◌≡◌, ◌∙◌, ◌<◌, ◌≤◌, ◌+◌, ℕ, suc, List, [], ◌∷◌, ◌++◌, map, filter, length, take, drop, get_or, Bool, true, false, cond, not, Option, None, Some, is_eq, refl, sym, ap, ap₂, add-one, arith}
-use Rattle.std.specs.Prelude.{ℤ}
+use Rattle.std.proofs.Common.{◌≡◌, ◌∙◌, ◌<◌, ◌≤◌, ◌+◌, ℕ, zero, suc, List, [], ◌∷◌, ◌++◌, map, filter, length, take, drop, get_or, Bool, true, false, cond, not, Option, None, Some, is_eq, refl, sym, ap, ap₂, add-one, arith}
+use Rattle.std.specs.Prelude.{ℤ, pos}
 use Rattle.std.specs.Ordering.{int_cmp}
 use Rattle.std.proofs.Math.ListN.{drop_of_length-le}
 use Rattle.std.proofs.Math.Seq.{take-suc}
@@ -54,8 +54,16 @@ numbers_end cells i ns le so_far = so_far ∙ ap (λ l. filter is_taken (map cel
 
 -- ---- the different ones
 
+next_number : (ns : List ℤ) (i : ℕ) (x : ℤ) → i < length ns → x ≡ get_or ns i (pos 0) → drop i ns ≡ x ∷ drop (i + 1) ns
+next_number ns i x lt is = next_item ns i x lt (is ∙ get_or_any ns i (pos 0) x lt)
+  where
+    get_or_any : (ns : List ℤ) (i : ℕ) (d e : ℤ) → i < length ns → get_or ns i d ≡ get_or ns i e
+    get_or_any [] i d e lt = absurd (omega arith)
+    get_or_any (n ∷ ns) zero d e lt = refl
+    get_or_any (n ∷ ns) (suc i) d e lt = get_or_any ns i d e (omega (arith, lt))
+
 -- the next one is another one than the last
-pub runs_more : (n i more : ℕ) (last : Option ℤ) (x : ℤ) (ns : List ℤ) (total : ℕ) → i < length ns → x ≡ get_or ns i x → starts_run last x ≡ true
+pub runs_more : (n i more : ℕ) (last : Option ℤ) (x : ℤ) (ns : List ℤ) (total : ℕ) → i < length ns → x ≡ get_or ns i (pos 0) → starts_run last x ≡ true
     → n + length (pass_from same_number last (drop i ns)) ≡ total → more ≡ n + 1 → more + length (pass_from same_number (Some x) (drop (i + 1) ns)) ≡ total
 runs_more n i more last x ns total lt is other so_far grown =
     let rest = drop (i + 1) ns in
@@ -64,12 +72,12 @@ runs_more n i more last x ns total lt is other so_far grown =
       | None ↦ λ e. refl
       | Some y ↦ λ e. (let go : (b : Bool) → not b ≡ true → length (cond b (pass same_number y rest) (x ∷ pass same_number x rest)) ≡ suc (length (pass same_number x rest)) = elim [ true ↦ λ k. cc | false ↦ λ k. refl ] in go (same_number y x) e)
     ] in
-    let here : n + length (pass_from same_number last (x ∷ rest)) ≡ total = ap (λ l. n + length (pass_from same_number last l)) (sym (next_item ns i x lt is)) ∙ so_far in
+    let here : n + length (pass_from same_number last (x ∷ rest)) ≡ total = ap (λ l. n + length (pass_from same_number last l)) (sym (next_number ns i x lt is)) ∙ so_far in
     let long = begins last other in
     omega (arith, here, long, grown)
 
 -- or the same
-pub runs_stay : (n i : ℕ) (last : Option ℤ) (x : ℤ) (ns : List ℤ) (total : ℕ) → i < length ns → x ≡ get_or ns i x → starts_run last x ≡ false
+pub runs_stay : (n i : ℕ) (last : Option ℤ) (x : ℤ) (ns : List ℤ) (total : ℕ) → i < length ns → x ≡ get_or ns i (pos 0) → starts_run last x ≡ false
     → n + length (pass_from same_number last (drop i ns)) ≡ total → n + length (pass_from same_number last (drop (i + 1) ns)) ≡ total
 runs_stay n i last x ns total lt is other so_far =
     let rest = drop (i + 1) ns in
@@ -78,7 +86,7 @@ runs_stay n i last x ns total lt is other so_far =
       | None ↦ λ e. cc
       | Some y ↦ λ e. (let go : (b : Bool) → not b ≡ false → cond b (pass same_number y rest) (x ∷ pass same_number x rest) ≡ pass same_number y rest = elim [ true ↦ λ k. refl | false ↦ λ k. cc ] in go (same_number y x) e)
     ] in
-    ap (λ l. n + length l) (sym (stays last other)) ∙ ap (λ l. n + length (pass_from same_number last l)) (sym (next_item ns i x lt is)) ∙ so_far
+    ap (λ l. n + length l) (sym (stays last other)) ∙ ap (λ l. n + length (pass_from same_number last l)) (sym (next_number ns i x lt is)) ∙ so_far
 
 -- their number, once the pass has come to the end
 pub runs_end : (n i : ℕ) (last : Option ℤ) (ns : List ℤ) → length ns ≤ i

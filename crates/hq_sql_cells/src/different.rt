@@ -56,7 +56,6 @@ fn sort_numbers(numbers: &mut Vec<i128>) -> Result<(), Memory>
 }
 
 // How many different numbers there are, where they ascend.
-#[tactic(auto, using(crate::proofs::Numbers::runs_more, crate::proofs::Numbers::runs_stay))]
 fn number_of_runs(numbers: &[i128]) -> usize
     requires { Ascends int_cmp numbers.now }
     ensures { result ≡ length (firsts same_number numbers.now) }
