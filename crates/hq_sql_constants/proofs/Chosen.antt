@@ -44,7 +44,6 @@ use Rattle.hq_sql_access.specs.declared.stored.Stored.{Stored}
 use Rattle.hq_sql_constants.specs.Listed.{AsksOneOf, is_one_of}
 use Rattle.hq_sql_constants.proofs.RangeEntries.{cells_stand}
 use Rattle.hq_model.specs.declared.op.Op.TheVariants.{Eq}
-use Rattle.hq_sql_constants.specs.Patterns.{AsksLike, is_like}
 use Rattle.hq_sql_constants.specs.Ranged.{AsksRange, HaveSame, meets_all}
 use Rattle.hq_sql_constants.specs.Sifted.{AreConstants, AreTaken, FindsOver, HasSlots, IsLeft, KeepsSame, MarksAll, as_looked, has_constant, places_left, slot_of, with_places}
 use Rattle.hq_sql_constants.specs.declared.marked.Constants.{Constants}
@@ -266,12 +265,6 @@ module _ (w : World) (js : JoinTrees) (alias name : List ℕ) (p : PredTree) (st
   marked_at vs own marks same asked first alone over all =
       left_of_table (is_one_of vs) (λ k. get_or marks k false) same asked.asks first alone
       (λ k out. unmarked rows at vs marks k (subst (λ cs. MarksAll rows cs vs marks) over all) out)
-
-  -- where it is not like the pattern that the condition asks it to be like
-  pub likened_at : (m : List ℕ × Bool) → rows_lent stored.now.rows ≡ rows → AsksLike p alias name m → IsFirst → is_joined js alias ≡ false
-      → places ≡ filter (λ k. is_like m (cell_in (get_or rows k []) at)) (positions_of positions) → KeepsAt
-  likened_at m same asked first alone =
-      left_of_table (is_like m) (λ k. is_like m (cell_in (get_or rows k []) at)) same (asked.asks w) first alone (λ k out. out)
 
   -- places with the same of the rows whose column meets the comparisons that the condition asks for may stand in their place
   pub ranged_at : (bs : List Bound) → rows_lent stored.now.rows ≡ rows → AsksRange p alias name bs → IsFirst → is_joined js alias ≡ false

@@ -1,6 +1,5 @@
 pub mod Ones
 pub mod Chosen
-pub mod Likes
 pub mod Marks
 pub mod ColumnTests
 pub mod KeyTests

@@ -14,9 +14,11 @@ use Rattle.hq_sql_tree.specs.Tree.{PredTree, preds_of}
 use Rattle.hq_sql_tree.specs.View.{pred_view}
 use Rattle.hq_sql_tree.specs.declared.select.Pred.{Pred}
 use Rattle.hq_sql_constants.specs.KeyTests.{IsKeyTest}
+use Rattle.hq_sql_constants.specs.LikeTests.{IsLikeTest}
 use Rattle.hq_sql_constants.specs.Plain as plain
 use Rattle.hq_sql_constants.specs.RowTests.{AreTests, IsAtom, IsTest, one_holds, told, told_by}
 use Rattle.hq_sql_constants.specs.declared.key_test.KeyTest.{KeyTest}
+use Rattle.hq_sql_constants.specs.declared.like_test.LikeTest.{LikeTest}
 use Rattle.hq_sql_constants.specs.declared.plain.ColumnTest.{ColumnTest}
 use Rattle.hq_sql_constants.specs.declared.row_test.Atom.{Atom}
 use Rattle.hq_sql_constants.specs.declared.row_test.Atom.TheVariants as atom
@@ -27,6 +29,10 @@ use Rattle.hq_sql_constants.specs.declared.row_test.RowTest.{RowTest}
 pub column_is : (w : World) (columns : List Column) (alias : List ℕ) (p : PredTree) (t : ColumnTest) (a : Atom)
     → plain.IsTest columns alias p t → a ≡ atom.Column t → IsAtom w columns alias p a
 column_is w columns alias p t a h e = subst (IsAtom w columns alias p) (sym e) (record { says = λ row m here. h.says w row m here })
+
+pub like_is : (w : World) (columns : List Column) (alias : List ℕ) (p : PredTree) (t : LikeTest) (a : Atom)
+    → IsLikeTest columns alias p t → a ≡ atom.Like t → IsAtom w columns alias p a
+like_is w columns alias p t a h e = subst (IsAtom w columns alias p) (sym e) (record { says = λ row m here. h.says w row m here })
 
 pub keys_are : (w : World) (columns : List Column) (alias : List ℕ) (p : PredTree) (t : KeyTest) (a : Atom)
     → IsKeyTest w columns alias p t.set.now t.columns.items → a ≡ atom.Keys t → IsAtom w columns alias p a

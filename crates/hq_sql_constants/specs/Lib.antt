@@ -1,6 +1,6 @@
 pub mod KeyTests
+pub mod LikeTests
 pub mod Listed
-pub mod Patterns
 pub mod Plain
 pub mod Ranged
 pub mod RowTests

@@ -9,14 +9,16 @@ use Rattle.hq_sql_conjuncts.specs.Split.{kept_one}
 use Rattle.hq_sql_tree.specs.Meaning.{Scope as Names, World, named_row, truth_at}
 use Rattle.hq_sql_tree.specs.Tree.{PredTree}
 use Rattle.hq_sql_constants.specs.KeyTests.{row_has}
+use Rattle.hq_sql_constants.specs.LikeTests.{told as told_like}
 use Rattle.hq_sql_constants.specs.Plain.{told as told_column}
 use Rattle.hq_sql_constants.specs.declared.row_test.Atom.{Atom}
-use Rattle.hq_sql_constants.specs.declared.row_test.Atom.TheVariants.{Column as OfColumn, Keys}
+use Rattle.hq_sql_constants.specs.declared.row_test.Atom.TheVariants.{Column as OfColumn, Keys, Like}
 use Rattle.hq_sql_constants.specs.declared.row_test.RowTest.{RowTest}
 
 -- what is told of a row
 abbrev pub told_by : Atom → Row → Truth
 told_by (OfColumn t) row = told_column t row
+told_by (Like t) row = told_like t row
 told_by (Keys t) row = truth_of (row_has t.set.now t.columns.items row)
 
 -- what a test says of a row

@@ -1,14 +1,14 @@
 //! Conditions that ask columns of a table for something that constants tell. Scans whose WHERE asks a column to be one of many
-//! constants, in a range of few rows, or like a long pattern: rows that are not are left out before WHERE is tried. What an EXISTS
-//! whose keys are known asks of a column is that it is one of these. Tests of columns beside constants, and of the keys of an EXISTS,
-//! are tried at the values of rows, without a scope.
+//! constants, or in a range of few rows: rows that are not are left out before WHERE is tried. What an EXISTS whose keys are known asks
+//! of a column is that it is one of these. Tests of columns beside constants and by patterns, and of the keys of an EXISTS, are tried
+//! at the values of rows, without a scope.
 #![tactic(auto)]
 
 mod key_test;
 mod keyed;
+mod like_test;
 mod listed;
 mod marked;
-mod patterns;
 mod plain;
 mod ranged;
 mod row_test;

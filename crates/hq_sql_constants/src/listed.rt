@@ -8,7 +8,6 @@ ghost use Rattle.hq_sql_tree.specs.View.{expr_view, pred_view};
 ghost use Rattle.hq_sql_constants.specs.Listed.{AsksOneOf, IsOfOne};
 
 use crate::keyed::{known_keys, linked_by};
-use crate::patterns::is_long;
 use hq_base::{Memory, Txt, Val};
 use hq_model::{Op, Test};
 use hq_sql_access::equations::is_column;
@@ -229,11 +228,10 @@ fn least_of_any(preds: &PredList) -> usize {
     }
 }
 
-/// Whether a condition has so many operands or conditions, or a long pattern, or its keys are known.
+/// Whether a condition has so many operands or conditions, or its keys are known.
 pub(crate) fn is_many(pred: &Pred, world: &Pinned<'_>) -> bool {
     match pred {
-        Pred::Test { test, operands, .. } => operands.len() >= FEW
-            || is_long(*test, operands.as_slice()),
+        Pred::Test { operands, .. } => operands.len() >= FEW,
         Pred::Or(preds) => {
             preds.len() >= FEW
                 || preds

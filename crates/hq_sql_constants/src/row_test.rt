@@ -6,6 +6,7 @@ ghost use Rattle.hq_sql_tree.specs.Tree.{any_of, negation, preds_of};
 ghost use Rattle.hq_sql_tree.specs.View.{pred_view};
 
 use crate::key_test::{KeyTest, key_test, row_has};
+use crate::like_test::{LikeTest, like_test, told as told_like};
 use crate::plain::{ColumnTest, test_of, told as told_column};
 use hq_base::{Memory, Txt, Val};
 use hq_model::{Column, Truth};
@@ -19,6 +20,8 @@ use std::cell::Cell;
 pub enum Atom<'m, 'd> {
     /// Something of one of its columns.
     Column(ColumnTest<'d>),
+    /// That one of them is like a pattern.
+    Like(LikeTest<'d>),
     /// That keys which are known have its key.
     Keys(KeyTest<'m, 'd>),
 }
@@ -30,8 +33,28 @@ pub struct RowTest<'m, 'd> {
     pub atom: Atom<'m, 'd>,
 }
 
-// What a condition asks of a row: a test of a column beside constants, or an EXISTS of which keys are known.
-#[tactic(auto, using(crate::proofs::RowTests::column_is, crate::proofs::RowTests::keys_are))]
+// The test of a column that a condition is, beside constants or by a pattern.
+#[tactic(auto, using(crate::proofs::RowTests::column_is, crate::proofs::RowTests::like_is))]
+fn column_atom<'m, 'd>(
+    alloc: Global,
+    pred: &'d Pred,
+    columns: &[Column],
+    alias: &Txt,
+    world: &'m Pinned<'d>,
+) -> Result<Option<Atom<'m, 'd>>, Memory>
+    ensures { IfOk result (λ found. IfSome found (IsAtom (world_of world.now) columns.now alias.now (pred_view pred.now))) }
+{
+    if let Some(test) = test_of(alloc, pred, columns, alias)? {
+        return Ok(Some(Atom::Column(test)));
+    }
+    match like_test(pred, columns, alias, world.matchers) {
+        Some(test) => Ok(Some(Atom::Like(test))),
+        None => Ok(None),
+    }
+}
+
+// What a condition asks of a row: a test of a column, or an EXISTS of which keys are known.
+#[tactic(auto, using(crate::proofs::RowTests::keys_are))]
 fn atom_of<'m, 'd>(
     alloc: Global,
     pred: &'d Pred,
@@ -42,10 +65,7 @@ fn atom_of<'m, 'd>(
     ensures { IfOk result (λ found. IfSome found (IsAtom (world_of world.now) columns.now alias.now (pred_view pred.now))) }
 {
     match pred {
-        Pred::Test { .. } => match test_of(alloc, pred, columns, alias)? {
-            Some(test) => Ok(Some(Atom::Column(test))),
-            None => Ok(None),
-        },
+        Pred::Test { .. } => column_atom(alloc, pred, columns, alias, world),
         Pred::Exists(_) => match key_test(alloc, pred, columns, alias, world)? {
             Some(test) => Ok(Some(Atom::Keys(test))),
             None => Ok(None),
@@ -165,6 +185,7 @@ fn told_by(
 {
     match atom {
         Atom::Column(test) => told_column(alloc, test, row),
+        Atom::Like(test) => Ok(told_like(test, row)),
         Atom::Keys(test) => Ok(Truth::of(row_has(alloc, test, row, looked)?)),
     }
 }

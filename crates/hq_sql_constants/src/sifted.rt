@@ -3,7 +3,6 @@ ghost use Rattle.std.specs.Prelude.{◌≡◌, ◌∷◌, [], map, IfOk, IfSome,
 ghost use Rattle.std.specs.List.{position};
 ghost use Rattle.hq_load_index.specs.Indexes.{IsOver, columns_of};
 ghost use Rattle.hq_sql_constants.specs.Listed.{AsksOneOf};
-ghost use Rattle.hq_sql_constants.specs.Patterns.{AsksLike};
 ghost use Rattle.hq_sql_constants.specs.Ranged.{AsksRange};
 ghost use Rattle.hq_sql_constants.specs.Sifted.{IsLeft, KeepsSameAt, Sifts, places_left, with_places};
 ghost use Rattle.hq_sql_access.specs.Equations.{is_joined};
@@ -17,7 +16,6 @@ ghost use Rattle.hq_sql_tree.specs.View.{filter_view, join_view, pred_view};
 
 use crate::listed::{Listed, listed_in};
 use crate::marked::{constants_of, index_over, marks_by, places_marked, places_with};
-use crate::patterns::{Likened, likened_in, places_like};
 use crate::ranged::{Ranged, ranged_in};
 use crate::spans::{places_between, span_of};
 use crate::walked::in_range;
@@ -132,53 +130,6 @@ fn sifted_by<'d>(
     )
 }
 
-// Those of the places whose rows are like the pattern that a condition asks for.
-fn sifted_like<'d>(
-    alloc: Global,
-    stored: &'d Stored<'d>,
-    rows: &Rows,
-    alias: &Txt,
-    joins: &[Join],
-    pred: &Pred,
-    asked: Likened<'_>,
-    positions: Positions<'_>,
-    world: &Pinned<'_>,
-) -> Result<Option<Vec<u32>>, Memory>
-    requires joined { is_joined (joins_of (map join_view joins.now)) alias.now ≡ false }
-    requires rows { rows_lent stored.now.rows ≡ rows.now }
-    requires asks { AsksLike (pred_view pred.now) alias.now asked.name.now asked.matcher.now }
-    ensures { IfOk result (Sifts world.now joins.now alias.now pred.now stored.entry positions.entry) }
-{
-    let Some(column) = column_named(stored, asked.name) else {
-        return Ok(None);
-    };
-    let places = places_like(alloc, rows, positions, column, asked.matcher)?;
-    Ok(Some(places))
-}
-
-// The same of a condition, where it asks a column to be like a long pattern.
-fn sifted_by_pattern<'d>(
-    alloc: Global,
-    stored: &'d Stored<'d>,
-    rows: &Rows,
-    alias: &Txt,
-    joins: &[Join],
-    pred: &Pred,
-    positions: Positions<'_>,
-    world: &Pinned<'_>,
-) -> Result<Option<Vec<u32>>, Memory>
-    requires joined { is_joined (joins_of (map join_view joins.now)) alias.now ≡ false }
-    requires rows { rows_lent stored.now.rows ≡ rows.now }
-    ensures { IfOk result (Sifts world.now joins.now alias.now pred.now stored.entry positions.entry) }
-{
-    match likened_in(pred, alias, world.matchers) {
-        Some(asked) => sifted_like(
-            alloc, stored, rows, alias, joins, pred, asked, positions, world,
-        ),
-        None => Ok(None),
-    }
-}
-
 // Those of the places whose rows stand in the range in which a condition asks a column with an index to be, where these are few.
 fn sifted_between<'d>(
     alloc: Global,
@@ -240,31 +191,7 @@ fn sifted_by_range<'d>(
     }
 }
 
-// The same of a condition, where it asks a column with an index to be in a range, or one to be like a long pattern.
-fn sifted_further<'d>(
-    alloc: Global,
-    stored: &'d Stored<'d>,
-    rows: &Rows,
-    alias: &Txt,
-    joins: &[Join],
-    pred: &Pred,
-    positions: Positions<'_>,
-    whole: bool,
-    world: &Pinned<'_>,
-) -> Result<Option<Vec<u32>>, Memory>
-    requires joined { is_joined (joins_of (map join_view joins.now)) alias.now ≡ false }
-    requires rows { rows_lent stored.now.rows ≡ rows.now }
-    ensures { IfOk result (Sifts world.now joins.now alias.now pred.now stored.entry positions.entry) }
-{
-    match sifted_by_range(
-        alloc, stored, rows, alias, joins, pred, positions, whole, world,
-    )? {
-        Some(places) => Ok(Some(places)),
-        None => sifted_by_pattern(alloc, stored, rows, alias, joins, pred, positions, world),
-    }
-}
-
-// The same of a condition, where it asks a column to be one of many constants, in a range, or like a long pattern.
+// The same of a condition, where it asks a column to be one of many constants, or in a range.
 fn sifted_rows<'d>(
     alloc: Global,
     stored: &'d Stored<'d>,
@@ -285,7 +212,7 @@ fn sifted_rows<'d>(
         Some(asked) => sifted_by(
             alloc, stored, rows, alias, joins, pred, asked, positions, world,
         ),
-        None => sifted_further(
+        None => sifted_by_range(
             alloc, stored, rows, alias, joins, pred, positions, whole, world,
         ),
     }

@@ -25,8 +25,8 @@ pub fn matcher_of<'m>(matchers: &'m [Matcher], pattern: &Txt, fold: bool) -> Opt
     None
 }
 
-// What LIKE says of a cell: Unknown of one that is no text.
-fn like_truth(matcher: &Matcher, cell: &Cell<'_>) -> Truth
+/// What LIKE says of a cell: Unknown of one that is no text.
+pub fn like_truth(matcher: &Matcher, cell: &Cell<'_>) -> Truth
     ensures { result ≡ matched matcher.now.1 (cell_view cell.now) (text_cell matcher.now.0) }
 {
     match cell {
