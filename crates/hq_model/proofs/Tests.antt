@@ -11,7 +11,7 @@ use Rattle.hq_model.specs.Tests.{applies, reads, same_op, same_test}
 use Rattle.hq_model.specs.declared.op.Op.{Op}
 use Rattle.hq_model.specs.declared.op.Op.TheVariants.{Eq, Ne, Lt, Le, Gt, Ge}
 use Rattle.hq_model.specs.declared.test.Test.{Test}
-use Rattle.hq_model.specs.declared.test.Test.TheVariants.{Compare, Among, IsNull, Like}
+use Rattle.hq_model.specs.declared.test.Test.TheVariants.{Compare, Among, IsNull, Like, Starts}
 use Rattle.hq_model.proofs.Fitting.{read_fits, pattern_read, constant_read, no_pattern}
 
 -- the value that a text is read as for a test fits it
@@ -19,6 +19,7 @@ pub reads_fit : (t : Test) (ty : Ty) (s : List ℕ) (v : Val) → reads t ty s �
 reads_fit (Compare op) ty s v e = read_fits ty s v e
 reads_fit Among ty s v e = read_fits ty s v e
 reads_fit IsNull ty s v e = read_fits ty s v e
+reads_fit Starts ty s v e = read_fits ty s v e
 reads_fit (Like fold) ty s v e = pattern_read s v e
 
 -- a constant that is no text fits each test of its type
@@ -26,6 +27,7 @@ pub other_fits : (t : Test) (ty : Ty) (j : JsonTree) (v : Val) → str_in j ≡ 
 other_fits (Compare op) ty j v other is e = constant_read ty j v e
 other_fits Among ty j v other is e = constant_read ty j v e
 other_fits IsNull ty j v other is e = constant_read ty j v e
+other_fits Starts ty j v other is e = constant_read ty j v e
 other_fits (Like fold) ty j v other is e = absurd (no_pattern ty j v other is e)
 
 -- ---- when two are one
@@ -61,6 +63,7 @@ pub test_is : (t u : Test) → same_test t u ≡ true → t ≡ u
 test_is (Compare a) (Compare b) h = ap Compare (op_is a b h)
 test_is Among Among h = refl
 test_is IsNull IsNull h = refl
+test_is Starts Starts h = refl
 test_is (Like a) (Like b) h = ap Like (bool_is a b h)
 test_is _ _ h = cc
 
@@ -68,4 +71,5 @@ pub test_same : (t : Test) → same_test t t ≡ true
 test_same (Compare op) = op_same op
 test_same Among = refl
 test_same IsNull = refl
+test_same Starts = refl
 test_same (Like fold) = bool_same fold

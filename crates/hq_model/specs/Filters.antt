@@ -10,7 +10,7 @@ use Rattle.hq_model.specs.Bexp.{BexpTree, always, and_of, or_of, not_of, test, t
 use Rattle.hq_model.specs.Database.{int_fits, is_text_of, is_boolean}
 use Rattle.hq_model.specs.Schema.{Schema, table, rel}
 use Rattle.hq_model.specs.Catalog.{can_pair}
-use Rattle.hq_model.specs.Tests.{Test, Compare, Among, IsNull, Like, takes, takes_many, arity, applies}
+use Rattle.hq_model.specs.Tests.{Test, Compare, Among, IsNull, Like, Starts, takes, takes_many, arity, applies}
 use Rattle.hq_model.specs.declared.bexp.Operand.{Operand}
 use Rattle.hq_model.specs.declared.bexp.Operand.TheVariants.{Const, Session}
 use Rattle.hq_model.specs.declared.bexp.Operands.{Operands}
@@ -38,6 +38,7 @@ test_fits (Compare op) ty = constant_fits ty
 test_fits Among ty = constant_fits ty
 test_fits IsNull ty = constant_fits ty
 test_fits (Like fold) ty = is_pattern
+test_fits Starts ty = constant_fits ty
 
 -- an operand for a test of a column of a type: such a constant, or any session name
 abbrev pub operand_fits : Test → Ty → Operand → Bool

@@ -1,6 +1,7 @@
 -- Truth in three values, and the comparisons of cells that have it (PostgreSQL, logical operators, comparison functions
 -- and operators, row and array comparisons, pattern matching).
-use Rattle.std.specs.Prelude.{List, [], ◌∷◌, Bool, true, false, cond, Option, Some, None}
+use Rattle.std.specs.Prelude.{List, [], ◌∷◌, Bool, true, false, cond, Option, Some, None, nat_eq}
+use Rattle.std.specs.List.{starts_with}
 use Rattle.std.specs.declared.cmp.Ordering.{Ordering}
 use Rattle.std.specs.Ordering.{nat_cmp, int_cmp, bool_cmp, is_eq, is_ne, is_lt, is_le, is_gt, is_ge}
 use Rattle.std.specs.Cmp.Lexicographic.{slice_cmp}
@@ -90,3 +91,8 @@ null_test _ = false
 abbrev pub matched : (fold : Bool) → (cell pattern : CellTree) → Truth
 matched fold (text s) (text p) = truth_of (like fold p s)
 matched fold _ _ = Unknown
+
+-- whether a text begins with another: unknown where one side is NULL
+abbrev pub started : (cell front : CellTree) → Truth
+started (text s) (text p) = truth_of (starts_with nat_eq s p)
+started _ _ = Unknown

@@ -1,7 +1,7 @@
 -- The table of the operators by which a column is tested in a boolean expression (Hasura, API reference: GraphQL API,
 -- operators; Authorization: operators in permission rules).
 use Rattle.std.specs.Prelude.{ℕ, List, [], ◌∷◌, find, Bool, true, false, Option, bytes_eq, codes}
-use Rattle.hq_model.specs.Tests.{Test, Compare, Among, IsNull, Like}
+use Rattle.hq_model.specs.Tests.{Test, Compare, Among, IsNull, Like, Starts}
 use Rattle.hq_model.specs.declared.op.Op.{Op}
 use Rattle.hq_model.specs.declared.op.Op.TheVariants.{Eq, Ne, Lt, Le, Gt, Ge}
 pub use Rattle.hq_model.specs.declared.operator.Operator.{Operator}
@@ -16,7 +16,7 @@ all_operators =
     operator (Compare Eq) false ∷ operator (Compare Gt) false ∷ operator (Compare Ge) false ∷ operator (Like true) false
     ∷ operator Among false ∷ operator IsNull false ∷ operator (Like false) false ∷ operator (Compare Lt) false
     ∷ operator (Compare Le) false ∷ operator (Compare Ne) false ∷ operator (Like true) true ∷ operator Among true
-    ∷ operator (Like false) true ∷ []
+    ∷ operator (Like false) true ∷ operator Starts false ∷ []
 
 -- the name of a test's operator; comparisons and the test of NULL have one name
 abbrev pub test_name : Test → (negated : Bool) → List ℕ
@@ -33,6 +33,7 @@ test_name (Like false) false = codes "_like"
 test_name (Like false) true = codes "_nlike"
 test_name (Like true) false = codes "_ilike"
 test_name (Like true) true = codes "_nilike"
+test_name Starts negated = codes "_starts"
 
 abbrev pub operator_name : Operator → List ℕ
 operator_name o = test_name o.test o.negated

@@ -7,7 +7,7 @@ use Rattle.hq_base.specs.Cells.{CellTree}
 use Rattle.hq_base.specs.Types.{is_text, is_ordered}
 use Rattle.hq_base.specs.declared.value.Ty.{Ty}
 use Rattle.hq_base.specs.declared.value.Val.{Val}
-use Rattle.hq_model.specs.Logic.{Truth, truth_of, compared, among, null_test, matched}
+use Rattle.hq_model.specs.Logic.{Truth, truth_of, compared, among, null_test, matched, started}
 use Rattle.hq_model.specs.Reading.{read_as, read_pattern}
 use Rattle.hq_model.specs.declared.op.Op.{Op}
 use Rattle.hq_model.specs.declared.op.Op.TheVariants.{Eq, Ne, Lt, Le, Gt, Ge}
@@ -15,7 +15,7 @@ use Rattle.hq_model.specs.declared.test.Arity.{Arity}
 use Rattle.hq_model.specs.declared.test.Arity.TheVariants.{Nothing, One, Many}
 use Rattle.hq_model.specs.declared.want.Want.{Want}
 pub use Rattle.hq_model.specs.declared.test.Test.{Test}
-pub use Rattle.hq_model.specs.declared.test.Test.TheVariants.{Compare, Among, IsNull, Like}
+pub use Rattle.hq_model.specs.declared.test.Test.TheVariants.{Compare, Among, IsNull, Like, Starts}
 
 -- how many operands each takes
 abbrev pub arity : Test → Arity
@@ -23,6 +23,7 @@ arity (Compare op) = One
 arity Among = Many
 arity IsNull = Nothing
 arity (Like fold) = One
+arity Starts = One
 
 -- as many operands as there are to be
 abbrev pub has_arity : Arity → (operands : ℕ) → Bool
@@ -46,6 +47,7 @@ applies (Compare op) ty = is_ordered ty
 applies Among ty = is_ordered ty
 applies IsNull ty = true
 applies (Like fold) ty = is_text ty
+applies Starts ty = is_text ty
 
 -- how the text of an operand is read, for a column of a type
 abbrev pub reads : Test → Ty → List ℕ → Result Val Want
@@ -53,6 +55,7 @@ reads (Compare op) ty = read_as ty
 reads Among ty = read_as ty
 reads IsNull ty = read_as ty
 reads (Like fold) ty = read_pattern
+reads Starts ty = read_as ty
 
 -- whether a value is one of none: the one test that looks at no value
 abbrev pub is_of_nothing : {A : Type 0} → Test → List A → Bool
@@ -82,4 +85,5 @@ same_test (Compare op) (Compare other) = same_op op other
 same_test Among Among = true
 same_test IsNull IsNull = true
 same_test (Like fold) (Like other) = is_eq (bool_cmp fold other)
+same_test Starts Starts = true
 same_test _ _ = false

@@ -91,7 +91,7 @@ pub fn read_operand(
 {
     match test {
         Test::Like { .. } => read_pattern(alloc, text),
-        Test::Compare(_) | Test::Among | Test::IsNull => {
+        Test::Compare(_) | Test::Among | Test::IsNull | Test::Starts => {
             text.is_text();
             read_as(alloc, ty, text.as_str())
         }

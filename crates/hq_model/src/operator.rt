@@ -34,7 +34,7 @@ fn opposite(test: Test) -> Operator
 
 impl Operator {
     /// All operators, in ascending order of the bytes of their names.
-    pub fn all() -> [Operator; 13]
+    pub fn all() -> [Operator; 14]
         ensures { result ≡ all_operators }
     {
         [
@@ -51,6 +51,7 @@ impl Operator {
             opposite(Test::Like { fold: true }),
             opposite(Test::Among),
             opposite(Test::Like { fold: false }),
+            plain(Test::Starts),
         ]
     }
 
@@ -73,6 +74,7 @@ impl Operator {
             (Test::Like { fold: false }, true) => "_nlike",
             (Test::Like { fold: true }, false) => "_ilike",
             (Test::Like { fold: true }, true) => "_nilike",
+            (Test::Starts, _) => "_starts",
         }
     }
 

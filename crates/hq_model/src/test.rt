@@ -16,6 +16,8 @@ pub enum Test {
     IsNull,
     /// Whether it is like the operand, a pattern: LIKE; without regard to the case of A to Z where `fold`, ILIKE.
     Like { fold: bool },
+    /// Whether it begins with the operand, a text: ^@.
+    Starts,
 }
 
 /// How many operands a test takes.
@@ -32,7 +34,7 @@ impl Test {
         ensures { result ≡ arity self }
     {
         match self {
-            Test::Compare(_) | Test::Like { .. } => Arity::One,
+            Test::Compare(_) | Test::Like { .. } | Test::Starts => Arity::One,
             Test::Among => Arity::Many,
             Test::IsNull => Arity::Nothing,
         }
@@ -43,7 +45,7 @@ impl Test {
         ensures { result ≡ applies self ty }
     {
         match self {
-            Test::Like { .. } => ty == Ty::Text,
+            Test::Like { .. } | Test::Starts => ty == Ty::Text,
             Test::Compare(_) | Test::Among => ty.is_ordered(),
             Test::IsNull => true,
         }
@@ -60,6 +62,7 @@ impl Test {
             },
             Test::Among => matches!(other, Test::Among),
             Test::IsNull => matches!(other, Test::IsNull),
+            Test::Starts => matches!(other, Test::Starts),
             Test::Like { fold } => match other {
                 Test::Like { fold: other } => fold == other,
                 _ => false,

@@ -45,7 +45,7 @@ pub fn operand(alloc: Global, test: Test, ty: Ty, json: &Json) -> Result<Operand
 {
     match test {
         Test::Like { .. } => pattern(alloc, json),
-        Test::Compare(_) | Test::Among | Test::IsNull => constant(alloc, ty, json),
+        Test::Compare(_) | Test::Among | Test::IsNull | Test::Starts => constant(alloc, ty, json),
     }
 }
 

@@ -4,7 +4,7 @@ ghost use Rattle.std.specs.Prelude.{◌≡◌, map, IfOk};
 ghost use Rattle.hq_base.specs.Aggregates.{first_cell};
 ghost use Rattle.hq_base.specs.Cells.{null};
 ghost use Rattle.hq_base.specs.Patterns.{like};
-ghost use Rattle.hq_model.specs.Logic.{op_test, compared, among, matched};
+ghost use Rattle.hq_model.specs.Logic.{op_test, compared, among, matched, started};
 ghost use Rattle.hq_model.specs.Tests.{test_truth};
 ghost use Rattle.hq_sql_cells.specs.View.{cell_view};
 
@@ -75,6 +75,18 @@ fn matched(alloc: Global, fold: bool, text: &Cell<'_>, pattern: &Cell<'_>) -> Re
     }
 }
 
+// Whether a text begins with another: Unknown where one side is NULL.
+fn started(text: &Cell<'_>, front: &Cell<'_>) -> Truth
+    ensures { result ≡ started (cell_view text.now) (cell_view front.now) }
+{
+    match (text, front) {
+        (Cell::Text(text), Cell::Text(front)) => {
+            Truth::of(text.as_bytes().starts_with(front.as_bytes()))
+        }
+        _ => Truth::Unknown,
+    }
+}
+
 // The first of these cells, and this one, which is NULL, where there is none.
 fn first_or<'s, 'd>(cells: &'s [Cell<'d>], none: &'s Cell<'d>) -> &'s Cell<'d>
     requires { cell_view none.now ≡ null }
@@ -102,5 +114,6 @@ pub fn test_truth(
         Test::Among => Ok(among(operands, cell)),
         Test::IsNull => Ok(Truth::of(cell.is_null())),
         Test::Like { fold } => matched(alloc, fold, cell, first_or(operands, &null)),
+        Test::Starts => Ok(started(cell, first_or(operands, &null))),
     }
 }

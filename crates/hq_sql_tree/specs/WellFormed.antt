@@ -12,7 +12,7 @@ use Rattle.hq_base.specs.declared.value.Ty.{Ty}
 use Rattle.hq_base.specs.declared.value.Ty.TheVariants.{Integer, Bigint, Text, Boolean, Uuid, Opaque}
 use Rattle.hq_model.specs.declared.table.Table.{Table}
 use Rattle.hq_model.specs.declared.test.Test.{Test}
-use Rattle.hq_model.specs.declared.test.Test.TheVariants.{IsNull, Like}
+use Rattle.hq_model.specs.declared.test.Test.TheVariants.{IsNull, Like, Starts}
 use Rattle.hq_sql_tree.specs.declared.expr.ColumnForm.{ColumnForm}
 use Rattle.hq_sql_tree.specs.declared.expr.ColumnForm.TheVariants.{Plain, Collated}
 use Rattle.hq_sql_tree.specs.Columns.{casts, collates, same_form}
@@ -259,6 +259,7 @@ is_item scope e item = is_compared scope item && compare_kinds (kind scope e) (k
 abbrev pub is_tested : Aliases → Test → ExprTree → Bool
 is_tested scope IsNull e = is_member scope e
 is_tested scope (Like fold) e = is_compared scope e && is_text_kind (kind scope e)
+is_tested scope Starts e = is_compared scope e && is_text_kind (kind scope e)
 is_tested scope _ e = is_compared scope e
 
 -- an operand is compared with the value; that of LIKE is a pattern

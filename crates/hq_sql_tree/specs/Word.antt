@@ -60,6 +60,7 @@ word_text word.Greater = codes " > "
 word_text word.GreaterEqual = codes " >= "
 word_text word.Like = codes " LIKE "
 word_text word.Ilike = codes " ILIKE "
+word_text word.Starts = codes " ^@ "
 word_text word.In = codes " IN ("
 word_text word.CloseIn = codes "))"
 word_text word.IsNull = codes " IS NULL"
@@ -78,7 +79,7 @@ aggregate_word aggregate.Sum = word.Sum
 abbrev pub all_tests : List Test
 all_tests =
     test.Compare op.Eq ∷ test.Compare op.Ne ∷ test.Compare op.Lt ∷ test.Compare op.Le ∷ test.Compare op.Gt ∷ test.Compare op.Ge
-    ∷ test.Among ∷ test.IsNull ∷ test.Like false ∷ test.Like true ∷ []
+    ∷ test.Among ∷ test.IsNull ∷ test.Like false ∷ test.Like true ∷ test.Starts ∷ []
 
 -- the operator of a test, which stands behind its value
 abbrev pub test_word : Test → Word
@@ -92,6 +93,7 @@ test_word test.Among = word.In
 test_word test.IsNull = word.IsNull
 test_word (test.Like false) = word.Like
 test_word (test.Like true) = word.Ilike
+test_word test.Starts = word.Starts
 
 -- what stands behind its operands: where they are a list, the parenthesis of that is closed too
 abbrev pub arity_close : Arity → Word

@@ -56,6 +56,7 @@ pub enum Word {
     GreaterEqual,
     Like,
     Ilike,
+    Starts,
     In,
     CloseIn,
     IsNull,
@@ -92,11 +93,12 @@ impl Word {
             Test::IsNull => Word::IsNull,
             Test::Like { fold: false } => Word::Like,
             Test::Like { fold: true } => Word::Ilike,
+            Test::Starts => Word::Starts,
         }
     }
 
     /// All tests that have a word.
-    pub fn tests() -> [Test; 10]
+    pub fn tests() -> [Test; 11]
         ensures { result ≡ all_tests }
     {
         [
@@ -110,6 +112,7 @@ impl Word {
             Test::IsNull,
             Test::Like { fold: false },
             Test::Like { fold: true },
+            Test::Starts,
         ]
     }
 
@@ -177,6 +180,7 @@ impl Word {
             Word::GreaterEqual => b" >= ",
             Word::Like => b" LIKE ",
             Word::Ilike => b" ILIKE ",
+            Word::Starts => b" ^@ ",
             Word::In => b" IN (",
             Word::CloseIn => b"))",
             Word::IsNull => b" IS NULL",

@@ -7,10 +7,10 @@ use Rattle.hq_base.specs.declared.value.Val.TheVariants as val
 use Rattle.hq_model.specs.declared.truth.Truth.{Truth}
 use Rattle.hq_model.specs.declared.truth.Truth.TheVariants.{Yes, No, Unknown}
 use Rattle.hq_model.specs.declared.op.Op.TheVariants.{Eq}
-use Rattle.hq_model.specs.Logic.{is_true, and3, or3, negated_if, compared, among, matched}
+use Rattle.hq_model.specs.Logic.{is_true, and3, or3, negated_if, compared, among, matched, started}
 use Rattle.hq_model.specs.Tests.{arity, is_of_nothing, test_truth}
 use Rattle.hq_model.specs.declared.test.Test.{Test}
-use Rattle.hq_model.specs.declared.test.Test.TheVariants.{Compare, Among, IsNull, Like}
+use Rattle.hq_model.specs.declared.test.Test.TheVariants.{Compare, Among, IsNull, Like, Starts}
 use Rattle.hq_model.specs.Truth.{operand_cell}
 use Rattle.hq_model.specs.declared.bexp.Operand.{Operand}
 use Rattle.hq_model.specs.declared.bexp.Operand.TheVariants.{Const, Session}
@@ -145,6 +145,20 @@ module _ (w : World) (scope : Scope) where
   matches_operand ty fold a (Const v) = matches ty fold a v
   matches_operand ty fold a (Session name) = matches ty fold a val.Null
 
+  starts : (ty : Ty) (a : CellTree) (v : Val) → started a (value (literal ty v) [] scope) ≡ started a (cell_of v)
+  starts ty null val.Null = refl
+  starts ty (int n) val.Null = refl
+  starts ty (text s) val.Null = refl
+  starts ty (bool b) val.Null = refl
+  starts ty (json j) val.Null = refl
+  starts ty a (val.Int n) = refl
+  starts ty a (val.Text s) = of_either (λ e. started a (value e [] scope) ≡ started a (text s)) ty s refl refl
+  starts ty a (val.Bool b) = refl
+
+  starts_operand : (ty : Ty) (a : CellTree) (o : Operand) → started a (value (operand_literal ty o) [] scope) ≡ started a (operand_cell o)
+  starts_operand ty a (Const v) = starts ty a v
+  starts_operand ty a (Session name) = starts ty a val.Null
+
   among_literals : (ty : Ty) (a : CellTree) (os : List Operand) → among (map (λ e. value e [] scope) (map (operand_literal ty) os)) a ≡ among (map operand_cell os) a
   among_literals ty a [] = refl
   among_literals ty a (o ∷ os) = ap₂ or3 (compares_operand ty Eq a o) (among_literals ty a os)
@@ -159,6 +173,8 @@ module _ (w : World) (scope : Scope) where
   operands_mean ty IsNull a vs = refl
   operands_mean ty (Like fold) a [] = matches ty fold a val.Null
   operands_mean ty (Like fold) a (v ∷ vs) = matches_operand ty fold a v
+  operands_mean ty Starts a [] = starts ty a val.Null
+  operands_mean ty Starts a (v ∷ vs) = starts_operand ty a v
 
   nothing_no : (t : Test) (a : CellTree) (vs : List Operand) → is_of_nothing t vs ≡ true → test_truth t a (map operand_cell vs) ≡ No
   nothing_no Among a [] h = refl

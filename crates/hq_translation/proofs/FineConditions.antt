@@ -22,7 +22,7 @@ use Rattle.hq_model.specs.declared.op.Op.TheVariants.{Eq}
 use Rattle.hq_model.specs.declared.test.Arity.{Arity}
 use Rattle.hq_model.specs.declared.test.Arity.TheVariants.{Nothing, One, Many}
 use Rattle.hq_model.specs.declared.test.Test.{Test}
-use Rattle.hq_model.specs.declared.test.Test.TheVariants.{Compare, IsNull, Like}
+use Rattle.hq_model.specs.declared.test.Test.TheVariants.{Compare, IsNull, Like, Starts}
 use Rattle.hq_request_tree.specs.Conditions.{is_constant, is_bound, are_bound, is_condition}
 use Rattle.hq_sql_tree.specs.Tree as tree
 use Rattle.hq_sql_tree.specs.Tree.{ExprTree}
@@ -109,6 +109,12 @@ value_alone Text (Like fold) f = refl
 value_alone Boolean (Like fold) f = cc
 value_alone Uuid (Like fold) f = cc
 value_alone Opaque (Like fold) f = cc
+value_alone Integer Starts f = cc
+value_alone Bigint Starts f = cc
+value_alone Text Starts f = refl
+value_alone Boolean Starts f = cc
+value_alone Uuid Starts f = cc
+value_alone Opaque Starts f = cc
 value_alone ty IsNull f = shown_of (column_alone ty) (codes "t") (codes "c") ty refl
 value_alone ty _ f = compared_of (column_alone ty) (codes "t") (codes "c") ty refl
 

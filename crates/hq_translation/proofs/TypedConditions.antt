@@ -11,7 +11,7 @@ use Rattle.hq_model.specs.Bexp.{BexpTree, always, and_of, or_of, not_of, test, t
 use Rattle.hq_model.specs.Schema.{Schema, table, rel, no_column}
 use Rattle.hq_model.specs.Tests.{arity, is_of_nothing}
 use Rattle.hq_model.specs.declared.test.Test.{Test}
-use Rattle.hq_model.specs.declared.test.Test.TheVariants.{IsNull, Like}
+use Rattle.hq_model.specs.declared.test.Test.TheVariants.{IsNull, Like, Starts}
 use Rattle.std.specs.Prelude.{slice_index_or, codes}
 use Rattle.hq_model.specs.declared.bexp.Operand.{Operand}
 use Rattle.hq_model.specs.declared.bexp.Operand.TheVariants.{Const, Session}
@@ -120,6 +120,8 @@ value_typed scope alias name ty IsNull h f = shown_of scope alias name ty h
 value_typed scope alias name Text (Like fold) h f = rw h refl
 value_typed scope alias name Opaque (Like fold) h f = rw h refl
 value_typed scope alias name _ (Like fold) h f = cc
+value_typed scope alias name Text Starts h f = rw h refl
+value_typed scope alias name _ Starts h f = cc
 value_typed scope alias name ty _ h f = compared_of scope alias name ty h
 
 -- a test that has its types where its column stands alone has them in each scope
