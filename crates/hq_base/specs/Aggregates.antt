@@ -3,9 +3,9 @@ use Rattle.std.specs.Prelude.{ℕ, pos, List, [], ◌∷◌, filter, length, fol
 use Rattle.std.specs.Ordering.{flip_args}
 use Rattle.hq_base.specs.Cells.{CellTree, null, int, text, bool, json, int_in, cell_cmp, same_cell}
 use Rattle.hq_base.specs.Lists.{sort, firsts}
-use Rattle.hq_base.specs.Types.{is_whole, is_text}
+use Rattle.hq_base.specs.Types.{is_whole, is_text, is_boolean}
 use Rattle.hq_base.specs.declared.aggregate.Aggregate.{Aggregate}
-use Rattle.hq_base.specs.declared.aggregate.Aggregate.TheVariants.{Max, Min, Sum}
+use Rattle.hq_base.specs.declared.aggregate.Aggregate.TheVariants.{Any, Max, Min, Sum}
 use Rattle.hq_base.specs.declared.value.Ty.{Ty}
 use Rattle.hq_base.specs.declared.value.Ty.TheVariants.{Bigint}
 
@@ -52,34 +52,39 @@ greatest cs = first_cell (sort (flip_args cell_cmp) (filter is_taken cs))
 
 -- all of them, in ascending order of the bytes of their names
 abbrev pub all_aggregates : List Aggregate
-all_aggregates = Max ∷ Min ∷ Sum ∷ []
+all_aggregates = Any ∷ Max ∷ Min ∷ Sum ∷ []
 
 -- the name of each, in GraphQL and in SQL
 abbrev pub aggregate_name : Aggregate → List ℕ
+aggregate_name Any = codes "any"
 aggregate_name Max = codes "max"
 aggregate_name Min = codes "min"
 aggregate_name Sum = codes "sum"
 
 -- what follows a table's name in the name of the type of its fields
 abbrev pub aggregate_suffix : Aggregate → List ℕ
+aggregate_suffix Any = codes "_any_fields"
 aggregate_suffix Max = codes "_max_fields"
 aggregate_suffix Min = codes "_min_fields"
 aggregate_suffix Sum = codes "_sum_fields"
 
 -- the types over whose values each is taken
 abbrev pub is_aggregate_of : Aggregate → Ty → Bool
+is_aggregate_of Any ty = is_boolean ty
 is_aggregate_of Max ty = is_whole ty || is_text ty
 is_aggregate_of Min ty = is_whole ty || is_text ty
 is_aggregate_of Sum ty = is_whole ty
 
 -- the type of what each gives of values of a type
 abbrev pub given_type : Aggregate → Ty → Ty
+given_type Any ty = ty
 given_type Max ty = ty
 given_type Min ty = ty
 given_type Sum ty = Bigint
 
 -- what each gives
 abbrev pub aggregated : Aggregate → List CellTree → CellTree
+aggregated Any = greatest
 aggregated Max = greatest
 aggregated Min = least
 aggregated Sum = summed

@@ -8,6 +8,8 @@ use crate::Ty;
 /// An aggregate of the values of a column, which passes over NULL and is NULL over none.
 #[derive(Clone, Copy, PartialEq, Eq)]
 pub enum Aggregate {
+    /// Whether some value is true.
+    Any,
     /// The greatest value.
     Max,
     /// The least one.
@@ -18,10 +20,15 @@ pub enum Aggregate {
 
 impl Aggregate {
     /// All of them, in ascending order of the bytes of their names.
-    pub fn all() -> [Aggregate; 3]
+    pub fn all() -> [Aggregate; 4]
         ensures { result ≡ all_aggregates }
     {
-        [Aggregate::Max, Aggregate::Min, Aggregate::Sum]
+        [
+            Aggregate::Any,
+            Aggregate::Max,
+            Aggregate::Min,
+            Aggregate::Sum,
+        ]
     }
 
     /// Its name, in GraphQL and in SQL.
@@ -30,6 +37,7 @@ impl Aggregate {
         ensures clean { has_zero result.now ≡ false }
     {
         match self {
+            Aggregate::Any => "any",
             Aggregate::Max => "max",
             Aggregate::Min => "min",
             Aggregate::Sum => "sum",
@@ -42,6 +50,7 @@ impl Aggregate {
         ensures clean { has_zero result.now ≡ false }
     {
         match self {
+            Aggregate::Any => "_any_fields",
             Aggregate::Max => "_max_fields",
             Aggregate::Min => "_min_fields",
             Aggregate::Sum => "_sum_fields",
@@ -53,7 +62,7 @@ impl Aggregate {
         ensures { result ≡ given_type self ty }
     {
         match self {
-            Aggregate::Max | Aggregate::Min => ty,
+            Aggregate::Any | Aggregate::Max | Aggregate::Min => ty,
             Aggregate::Sum => Ty::Bigint,
         }
     }
@@ -63,6 +72,7 @@ impl Aggregate {
         ensures { result ≡ is_aggregate_of self ty }
     {
         match self {
+            Aggregate::Any => ty == Ty::Boolean,
             Aggregate::Max | Aggregate::Min => ty.is_whole() || ty == Ty::Text,
             Aggregate::Sum => ty.is_whole(),
         }

@@ -133,7 +133,7 @@ pub fn aggregated<'d>(aggregate: Aggregate, cells: Vec<Cell<'d>>) -> Result<Cell
     ensures past { OnErr result (SumsFit None (filter is_taken (map cell_view cells.entry.items)) → ⊥) }
 {
     match aggregate {
-        Aggregate::Max => Ok(best_of(true, cells)),
+        Aggregate::Any | Aggregate::Max => Ok(best_of(true, cells)),
         Aggregate::Min => Ok(best_of(false, cells)),
         Aggregate::Sum => summed(&cells),
     }

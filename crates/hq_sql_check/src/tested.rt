@@ -29,7 +29,9 @@ fn is_tested(alloc: Global, scope: &Scope<'_, '_>, test: Test, value: &Expr) -> 
 {
     match test {
         Test::IsNull => is_member(alloc, scope, value),
-        Test::Like { .. } | Test::Starts => Ok(is_compared(alloc, scope, value)? && is_text(kind(scope, value))),
+        Test::Like { .. } | Test::Starts => Ok(
+            is_compared(alloc, scope, value)? && is_text(kind(scope, value)),
+        ),
         _ => is_compared(alloc, scope, value),
     }
 }

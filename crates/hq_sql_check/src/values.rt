@@ -127,6 +127,7 @@ pub(crate) fn takes_kind(aggregate: Aggregate, kind: Option<Kind>) -> bool
     ensures { result ≡ takes_kind aggregate (option_map kind_view kind) }
 {
     match aggregate {
+        Aggregate::Any => matches!(kind, Some(Kind::Truth)),
         Aggregate::Sum => is_summed(kind),
         _ => has_extremes(kind),
     }

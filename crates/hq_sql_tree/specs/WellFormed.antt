@@ -7,7 +7,7 @@ use Rattle.hq_base.specs.Lists.{all_differ}
 use Rattle.hq_base.specs.Patterns.{pattern_of}
 use Rattle.hq_base.specs.Uuids.{is_uuid_form}
 use Rattle.hq_base.specs.declared.aggregate.Aggregate.{Aggregate}
-use Rattle.hq_base.specs.declared.aggregate.Aggregate.TheVariants.{Sum}
+use Rattle.hq_base.specs.declared.aggregate.Aggregate.TheVariants.{Any, Sum}
 use Rattle.hq_base.specs.declared.value.Ty.{Ty}
 use Rattle.hq_base.specs.declared.value.Ty.TheVariants.{Integer, Bigint, Text, Boolean, Uuid, Opaque}
 use Rattle.hq_model.specs.declared.table.Table.{Table}
@@ -126,6 +126,11 @@ has_extremes (Some (whole of_column)) = true
 has_extremes (Some text) = true
 has_extremes _ = false
 
+-- what bool_or takes
+abbrev pub is_truth : Option Kind → Bool
+is_truth (Some truth) = true
+is_truth _ = false
+
 -- what sum takes: a whole-number column of a table, or an output that passes one on
 abbrev pub is_summed : Option Kind → Bool
 is_summed (Some (whole true)) = true
@@ -133,6 +138,7 @@ is_summed _ = false
 
 -- the kinds that an aggregate takes
 abbrev pub takes_kind : Aggregate → Option Kind → Bool
+takes_kind Any k = is_truth k
 takes_kind Sum k = is_summed k
 takes_kind _ k = has_extremes k
 

@@ -43,6 +43,7 @@ word_text word.BuildObject = codes "json_build_object("
 word_text word.CountAll = codes "count(*)"
 word_text word.Count = codes "count("
 word_text word.CountDistinct = codes "count(DISTINCT "
+word_text word.Any = codes "bool_or("
 word_text word.Sum = codes "sum("
 word_text word.Min = codes "min("
 word_text word.Max = codes "max("
@@ -71,6 +72,7 @@ word_text word.Exists = codes "EXISTS ("
 
 -- the function of an aggregate, and the parenthesis of its argument
 abbrev pub aggregate_word : Aggregate → Word
+aggregate_word aggregate.Any = word.Any
 aggregate_word aggregate.Max = word.Max
 aggregate_word aggregate.Min = word.Min
 aggregate_word aggregate.Sum = word.Sum

@@ -39,6 +39,7 @@ pub enum Word {
     CountAll,
     Count,
     CountDistinct,
+    Any,
     Sum,
     Min,
     Max,
@@ -72,6 +73,7 @@ impl Word {
         ensures { result ≡ aggregate_word aggregate }
     {
         match aggregate {
+            Aggregate::Any => Word::Any,
             Aggregate::Max => Word::Max,
             Aggregate::Min => Word::Min,
             Aggregate::Sum => Word::Sum,
@@ -163,6 +165,7 @@ impl Word {
             Word::CountAll => b"count(*)",
             Word::Count => b"count(",
             Word::CountDistinct => b"count(DISTINCT ",
+            Word::Any => b"bool_or(",
             Word::Sum => b"sum(",
             Word::Min => b"min(",
             Word::Max => b"max(",

@@ -4,9 +4,9 @@ use Rattle.std.specs.Prelude.{codes}
 use Rattle.std.specs.List.{list_all, list_any}
 use Rattle.hq_base.specs.Aggregates.{is_aggregate_of}
 use Rattle.hq_base.specs.Lists.{all_differ, Each}
-use Rattle.hq_base.specs.Types.{is_whole, is_text}
+use Rattle.hq_base.specs.Types.{is_whole, is_text, is_boolean}
 use Rattle.hq_base.specs.declared.aggregate.Aggregate.{Aggregate}
-use Rattle.hq_base.specs.declared.aggregate.Aggregate.TheVariants.{Sum}
+use Rattle.hq_base.specs.declared.aggregate.Aggregate.TheVariants.{Any, Sum}
 use Rattle.hq_base.specs.declared.value.Ty.{Ty}
 use Rattle.hq_base.specs.declared.value.Ty.TheVariants.{Integer, Bigint, Text, Boolean, Uuid, Opaque}
 use Rattle.hq_model.specs.Schema.{Schema, table}
@@ -132,8 +132,18 @@ sum_of scope alias name Boolean e h = cc
 sum_of scope alias name Uuid e h = cc
 sum_of scope alias name Opaque e h = cc
 
+any_of : (scope : Aliases) (alias name : List ℕ) (ty : Ty) → kind_at scope alias name ≡ Some (kind_of_type ty) → is_boolean ty ≡ true
+    → is_taken scope (tree.take Any (tree.column alias name (compared_form ty))) ≡ true
+any_of scope alias name Integer e h = cc
+any_of scope alias name Bigint e h = cc
+any_of scope alias name Text e h = cc
+any_of scope alias name Boolean e h = rw e refl
+any_of scope alias name Uuid e h = cc
+any_of scope alias name Opaque e h = cc
+
 taken_of : (scope : Aliases) (f : Aggregate) (alias name : List ℕ) (ty : Ty) → kind_at scope alias name ≡ Some (kind_of_type ty)
     → is_aggregate_of f ty ≡ true → is_taken scope (tree.take f (tree.column alias name (compared_form ty))) ≡ true
+taken_of scope Any alias name ty e h = any_of scope alias name ty e h
 taken_of scope Sum alias name ty e h = sum_of scope alias name ty e h
 taken_of scope _ alias name ty e h = extreme_of scope alias name ty e h
 

@@ -10,7 +10,7 @@ use Rattle.hq_base.specs.Aggregates.{is_counted, is_taken, first_cell, counted, 
 use Rattle.hq_base.specs.Cells.{CellTree, null, int, text, bool, json, int_in, cell_cmp, same_cell}
 use Rattle.hq_base.specs.Lists.{put, sort, firsts}
 use Rattle.hq_base.specs.declared.aggregate.Aggregate.{Aggregate}
-use Rattle.hq_base.specs.declared.aggregate.Aggregate.TheVariants.{Max, Min, Sum}
+use Rattle.hq_base.specs.declared.aggregate.Aggregate.TheVariants.{Any, Max, Min, Sum}
 use Rattle.hq_base.proofs.Orders.{cell_cmp_total}
 use Rattle.hq_laws_confine.proofs.Meaning.Orders.{then_first, then_second, swap}
 
@@ -233,6 +233,7 @@ turned_cells f xs ys h = cells_shuffled (flip_args cell_cmp) (back_total cell_cm
 pub taken_shuffled : {A : Type 0} (a : Aggregate) (f : A → CellTree) (xs ys : List A) → Shuffled xs ys → aggregated a (map f xs) ≡ aggregated a (map f ys)
 taken_shuffled Sum f xs ys h = sum_shuffled f xs ys h
 taken_shuffled Min f xs ys h = ap first_cell (sorted_cells f xs ys h)
+taken_shuffled Any f xs ys h = ap first_cell (turned_cells f xs ys h)
 taken_shuffled Max f xs ys h = ap first_cell (turned_cells f xs ys h)
 
 pub counted_shuffled : {A : Type 0} (distinct : Bool) (f : A → CellTree) (xs ys : List A) → Shuffled xs ys → counted distinct (map f xs) ≡ counted distinct (map f ys)
