@@ -14,15 +14,16 @@ use hq_like::Matcher;
 use hq_load_tables::Rows;
 use hq_model::{ColId, Test};
 use hq_sql_access::equations::is_column;
+use hq_sql_scans::likes::matcher_of;
 use hq_sql_scans::positions::{Positions, number_of, position_at};
 use hq_sql_tree::{Expr, ExprList, Pred, PredList};
 use std::alloc::Global;
 
-/// The name of a column, and the pattern that it is asked to be like.
+/// The name of a column, and the matcher of the pattern that it is asked to be like.
 #[derive(Drop)]
 pub(crate) struct Likened<'d> {
     pub name: &'d Txt,
-    pub matcher: Matcher,
+    pub matcher: &'d Matcher,
 }
 
 // A shorter pattern is not worth to be looked at before WHERE is tried.
@@ -49,91 +50,89 @@ pub(crate) fn is_long(test: Test, operands: &[Expr]) -> bool {
     }
 }
 
-// The pattern that a test asks the column to be like.
-fn of_test(
-    alloc: Global,
+// The matcher of the pattern that a test asks the column to be like, if it is among these.
+fn of_test<'m>(
     own: &Expr,
     test: Test,
     operands: &ExprList,
     alias: &Txt,
     name: &Txt,
-) -> Result<Option<Matcher>, Memory>
-    ensures { IfOk result (λ found. IfSome found (AsksLike (tested (expr_view own.now) test (map expr_view operands.now.items)) alias.now name.now)) }
+    matchers: &'m [Matcher],
+) -> Option<&'m Matcher>
+    ensures { IfSome result (λ m. AsksLike (tested (expr_view own.now) test (map expr_view operands.now.items)) alias.now name.now m.now) }
 {
     let Test::Like { fold } = test else {
-        return Ok(None);
+        return None;
     };
     if !is_column(own, alias, name) {
-        return Ok(None);
+        return None;
     }
     let Some(pattern) = long_pattern(operands.as_slice()) else {
-        return Ok(None);
+        return None;
     };
-    let matcher = Matcher::new(alloc, pattern, fold)?;
-    Ok(Some(matcher))
+    match matcher_of(matchers, pattern, fold) {
+        Some(matcher) => Some(matcher),
+        None => None,
+    }
 }
 
 // The same of a condition that is a test.
-fn of_pred(alloc: Global, pred: &Pred, alias: &Txt, name: &Txt) -> Result<Option<Matcher>, Memory>
-    ensures { IfOk result (λ found. IfSome found (AsksLike (pred_view pred.now) alias.now name.now)) }
+fn of_pred<'m>(pred: &Pred, alias: &Txt, name: &Txt, matchers: &'m [Matcher]) -> Option<&'m Matcher>
+    ensures { IfSome result (λ m. AsksLike (pred_view pred.now) alias.now name.now m.now) }
 {
     match pred {
         Pred::Test {
             value,
             test,
             operands,
-        } => of_test(alloc, value, *test, operands, alias, name),
+        } => of_test(value, *test, operands, alias, name, matchers),
         Pred::True | Pred::False | Pred::Not(_) | Pred::And(_) | Pred::Or(_) | Pred::Exists(_) =>
-            Ok(None),
+            None,
     }
 }
 
-// The column that a test asks to be like a long pattern, with this.
-fn of_alone<'d>(alloc: Global, pred: &'d Pred, alias: &Txt) -> Result<Option<Likened<'d>>, Memory>
-    ensures { IfOk result (λ found. IfSome found (λ l. AsksLike (pred_view pred.now) alias.now l.name.now l.matcher)) }
+// The column that a test asks to be like a long pattern, with the matcher of this.
+fn of_alone<'d>(pred: &'d Pred, alias: &Txt, matchers: &'d [Matcher]) -> Option<Likened<'d>>
+    ensures { IfSome result (λ l. AsksLike (pred_view pred.now) alias.now l.name.now l.matcher.now) }
 {
     let Some(name) = tested_name(pred, alias) else {
-        return Ok(None);
+        return None;
     };
-    match of_pred(alloc, pred, alias, name)? {
-        Some(matcher) => Ok(Some(Likened { name, matcher })),
-        None => Ok(None),
+    match of_pred(pred, alias, name, matchers) {
+        Some(matcher) => Some(Likened { name, matcher }),
+        None => None,
     }
 }
 
 // The same of one of the members of an AND.
 #[tactic(auto, using(crate::proofs::Likes::likes_member))]
-fn of_member<'d>(
-    alloc: Global,
-    preds: &'d PredList,
-    alias: &Txt,
-) -> Result<Option<Likened<'d>>, Memory>
-    ensures { IfOk result (λ found. IfSome found (λ l. AsksLike (all_of (preds_of (map pred_view preds.now.items))) alias.now l.name.now l.matcher)) }
+fn of_member<'d>(preds: &'d PredList, alias: &Txt, matchers: &'d [Matcher]) -> Option<Likened<'d>>
+    ensures { IfSome result (λ l. AsksLike (all_of (preds_of (map pred_view preds.now.items))) alias.now l.name.now l.matcher.now) }
 {
     for pred in preds {
-        if let Some(likened) = of_alone(alloc, pred, alias)? {
-            return Ok(Some(likened));
+        if let Some(likened) = of_alone(pred, alias, matchers) {
+            return Some(likened);
         }
     }
-    Ok(None)
+    None
 }
 
-/// The column of an alias that a condition asks to be like a long pattern, with this.
+/// The column of an alias that a condition asks to be like a long pattern, with the matcher of this, if it is among these.
 pub(crate) fn likened_in<'d>(
-    alloc: Global,
     pred: &'d Pred,
     alias: &Txt,
-) -> Result<Option<Likened<'d>>, Memory>
-    ensures { IfOk result (λ found. IfSome found (λ l. AsksLike (pred_view pred.now) alias.now l.name.now l.matcher)) }
+    matchers: &'d [Matcher],
+) -> Option<Likened<'d>>
+    ensures { IfSome result (λ l. AsksLike (pred_view pred.now) alias.now l.name.now l.matcher.now) }
 {
     match pred {
-        Pred::And(preds) => of_member(alloc, preds, alias),
+        Pred::And(preds) => of_member(preds, alias, matchers),
         Pred::True
         | Pred::False
         | Pred::Test { .. }
         | Pred::Not(_)
         | Pred::Or(_)
-        | Pred::Exists(_) => of_alone(alloc, pred, alias),
+        | Pred::Exists(_) => of_alone(pred, alias, matchers),
     }
 }
 

@@ -146,13 +146,13 @@ fn sifted_like<'d>(
 ) -> Result<Option<Vec<u32>>, Memory>
     requires joined { is_joined (joins_of (map join_view joins.now)) alias.now ≡ false }
     requires rows { rows_lent stored.now.rows ≡ rows.now }
-    requires asks { AsksLike (pred_view pred.now) alias.now asked.name.now asked.matcher }
+    requires asks { AsksLike (pred_view pred.now) alias.now asked.name.now asked.matcher.now }
     ensures { IfOk result (Sifts world.now joins.now alias.now pred.now stored.entry positions.entry) }
 {
     let Some(column) = column_named(stored, asked.name) else {
         return Ok(None);
     };
-    let places = places_like(alloc, rows, positions, column, &asked.matcher)?;
+    let places = places_like(alloc, rows, positions, column, asked.matcher)?;
     Ok(Some(places))
 }
 
@@ -171,7 +171,7 @@ fn sifted_by_pattern<'d>(
     requires rows { rows_lent stored.now.rows ≡ rows.now }
     ensures { IfOk result (Sifts world.now joins.now alias.now pred.now stored.entry positions.entry) }
 {
-    match likened_in(alloc, pred, alias)? {
+    match likened_in(pred, alias, world.matchers) {
         Some(asked) => sifted_like(
             alloc, stored, rows, alias, joins, pred, asked, positions, world,
         ),

@@ -13,8 +13,8 @@ use hq_model::{Test, Truth};
 use hq_sql_cells::Cell;
 use hq_sql_tree::Expr;
 
-// The matcher of a pattern.
-fn matcher_of<'m>(matchers: &'m [Matcher], pattern: &Txt, fold: bool) -> Option<&'m Matcher>
+/// The matcher of a pattern, if it is among these.
+pub fn matcher_of<'m>(matchers: &'m [Matcher], pattern: &Txt, fold: bool) -> Option<&'m Matcher>
     ensures { IfSome result (λ m. m.now ≡ (pattern.now, fold)) }
 {
     for matcher in matchers {
