@@ -39,6 +39,8 @@ fn test_word(test: Test, negated: bool) -> &'static str {
         (Test::Like { fold: false }, true) => " not like ",
         (Test::Like { fold: true }, false) => " ilike ",
         (Test::Like { fold: true }, true) => " not ilike ",
+        (Test::Starts, false) => " begins with ",
+        (Test::Starts, true) => " does not begin with ",
     }
 }
 
