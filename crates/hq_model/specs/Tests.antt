@@ -68,6 +68,7 @@ test_truth (Compare op) c ds = compared op c (first_cell ds)
 test_truth Among c ds = among ds c
 test_truth IsNull c ds = truth_of (null_test c)
 test_truth (Like fold) c ds = matched fold c (first_cell ds)
+test_truth Starts c ds = started c (first_cell ds)
 
 -- two comparisons are one
 abbrev pub same_op : Op → Op → Bool
