@@ -62,7 +62,7 @@ fn count_over(columns: &ShownColumnList, aggregates: &[Aggregate]) -> usize
 #[tactic(auto, unfolding(crate::specs::Placed::part_count))]
 pub fn part_count(table: &ShownTable) -> u32
     ensures count { result ≡ part_count table.now }
-    ensures within { result ≤ 9 }
+    ensures within { result ≤ 10 }
 {
     if !table.aggregates {
         return 4;
