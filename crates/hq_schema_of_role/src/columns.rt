@@ -1,4 +1,5 @@
-ghost use Rattle.std.specs.Prelude.{◌≡◌, ◌≤◌, length, filter, IfOk};
+ghost use Rattle.std.specs.Prelude.{◌≡◌, ◌≤◌, ◌+◌, length, filter, IfOk};
+ghost use Rattle.hq_base.specs.Aggregates.{all_aggregates};
 ghost use Rattle.hq_schema_of_role.specs.Shown.{has_aggregate, is_over, aggregates_over};
 ghost use Rattle.hq_schema_of_role.specs.Placed.{part_count};
 
@@ -62,7 +63,7 @@ fn count_over(columns: &ShownColumnList, aggregates: &[Aggregate]) -> usize
 #[tactic(auto, unfolding(crate::specs::Placed::part_count))]
 pub fn part_count(table: &ShownTable) -> u32
     ensures count { result ≡ part_count table.now }
-    ensures within { result ≤ 9 }
+    ensures within { result ≤ 6 + length all_aggregates }
 {
     if !table.aggregates {
         return 4;
