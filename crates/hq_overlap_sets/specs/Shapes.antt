@@ -34,3 +34,7 @@ same_shape (non_null r) (leaf b) = false
 same_shape (non_null r) object = false
 same_shape (non_null r) (list_of q) = false
 same_shape (non_null r) (non_null q) = same_shape r q
+
+-- the test of two types
+abbrev pub have_same_shape : SchemaTree → (a b : TypeRefTree) → Bool
+have_same_shape s a b = same_shape (shape_of s a) (shape_of s b)

@@ -1,14 +1,14 @@
 //! Types in shape.
 ghost use Rattle.std.specs.Prelude.{◌≡◌};
 ghost use Rattle.hq_schema.specs.Schema.{named, schema_view, type_ref_view};
-ghost use Rattle.hq_overlap_sets.specs.Shapes.{shape_of, same_shape};
+ghost use Rattle.hq_overlap_sets.specs.Shapes.{have_same_shape};
 
 use hq_gql_nodes::object_at;
 use hq_schema::{Schema, TypeId, TypeRef};
 
 // Whether two types are alike: the same leaf, or two objects.
 fn same_base(schema: &Schema, left: TypeId, right: TypeId) -> bool
-    ensures { result ≡ same_shape (shape_of (schema_view schema.now) (named left)) (shape_of (schema_view schema.now) (named right)) }
+    ensures { result ≡ have_same_shape (schema_view schema.now) (named left) (named right) }
 {
     match (
         object_at(schema, left).is_some(),
@@ -23,7 +23,7 @@ fn same_base(schema: &Schema, left: TypeId, right: TypeId) -> bool
 /// Whether two types are alike in shape.
 #[tactic(auto, using(crate::proofs::ShapeLemmas::named_and_list, crate::proofs::ShapeLemmas::list_and_named, crate::proofs::ShapeLemmas::named_and_non_null, crate::proofs::ShapeLemmas::non_null_and_named))]
 pub fn same_shape(schema: &Schema, left: &TypeRef, right: &TypeRef) -> bool
-    ensures { result ≡ same_shape (shape_of (schema_view schema.now) (type_ref_view left.now)) (shape_of (schema_view schema.now) (type_ref_view right.now)) }
+    ensures { result ≡ have_same_shape (schema_view schema.now) (type_ref_view left.now) (type_ref_view right.now) }
 {
     match left {
         TypeRef::Named(t) => match right {

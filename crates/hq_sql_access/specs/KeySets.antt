@@ -8,7 +8,7 @@ use Rattle.hq_model.specs.Logic.{truth_of}
 use Rattle.hq_sql_tree.specs.declared.expr.Expr.{Expr}
 use Rattle.hq_sql_tree.specs.Meaning.{Scope as Names, World, truth_at, value}
 use Rattle.hq_sql_tree.specs.Tree.{PredTree}
-use Rattle.hq_sql_tree.specs.View.{expr_view}
+use Rattle.hq_sql_tree.specs.View.{expr_view, pred_view}
 use Rattle.hq_sql_access.specs.KeyCells.{key_cell}
 use Rattle.hq_sql_access.specs.Sources.{has_items}
 use Rattle.hq_sql_access.specs.declared.pinned.KeySet.{KeySet}
@@ -25,3 +25,7 @@ keeps_key s names = has_items (rows_with (columns_of s.index) (link_keys s.links
 pub record IsKeySet (w : World) (p : PredTree) (s : KeySet) : Type 0 where
   pub over : IsOver (rows_in s.grid) s.index
   pub has : (names : Names) → truth_at p w names ≡ truth_of (keeps_key s names)
+
+-- so its own one is
+abbrev pub IsOwnSet : World → KeySet → Type 0
+IsOwnSet w s = IsKeySet w (pred_view s.pred.now) s

@@ -1,8 +1,7 @@
 //! The tables that a statement is evaluated over, and what is known of conditions over them.
 ghost use Rattle.std.proofs.Props.{props};
 ghost use Rattle.std.specs.Prelude.{◌≡◌, ◌<◌, ℕ, length, slice_index_or};
-ghost use Rattle.hq_sql_tree.specs.View.{pred_view};
-ghost use Rattle.hq_sql_access.specs.KeySets.{IsKeySet};
+ghost use Rattle.hq_sql_access.specs.KeySets.{IsOwnSet};
 ghost use Rattle.hq_sql_access.specs.KnownRows.{IsRight};
 ghost use Rattle.hq_sql_access.specs.Pins.{world_in};
 ghost use Rattle.hq_sql_access.specs.declared.pinned.KeySet.{KeySet};
@@ -45,7 +44,7 @@ pub struct Pinned<'d> {
     pub known: Vec<KnownRows<'d>>,
     pub sets: Vec<KeySet<'d>>,
     ghost right: { (i : ℕ) (d : KnownRows) → i < length known.items → IsRight (world_in tables.now) (slice_index_or known.items i d) },
-    ghost keyed: { (i : ℕ) (d : KeySet) → i < length sets.items → IsKeySet (world_in tables.now) (pred_view (slice_index_or sets.items i d).pred.now) (slice_index_or sets.items i d) } by { Prim.hlevel props },
+    ghost keyed: { (i : ℕ) (d : KeySet) → i < length sets.items → IsOwnSet (world_in tables.now) (slice_index_or sets.items i d) } by { Prim.hlevel props },
 }
 
 impl<'d> Pinned<'d> {
@@ -78,7 +77,7 @@ impl<'d> Pinned<'d> {
 
     /// Knows the keys of one EXISTS more.
     pub fn add_set(&mut self, set: KeySet<'d>) -> Result<(), Memory>
-        requires { IsKeySet (world_in self.old.tables.now) (pred_view set.pred.now) set }
+        requires { IsOwnSet (world_in self.old.tables.now) set }
         ensures { self.new.tables ≡ self.old.tables }
     {
         self.sets.push(set)?;

@@ -38,7 +38,7 @@ pub enum Verdict {
 }
 
 // Of fewer rows each is tried as it is.
-const FEW: usize = 8;
+const FEW: usize = 3;
 
 // The tests of conditions that are all to be true.
 fn tests_of_all<'m, 'd>(

@@ -2,7 +2,7 @@
 ghost use Rattle.std.specs.Prelude.{◌≡◌, [], true, IfOk, IfSome};
 ghost use Rattle.hq_sql_tree.specs.Tree.{exists};
 ghost use Rattle.hq_sql_tree.specs.View.{pred_view, select_view};
-ghost use Rattle.hq_sql_access.specs.KeySets.{IsKeySet};
+ghost use Rattle.hq_sql_access.specs.KeySets.{IsOwnSet};
 ghost use Rattle.hq_sql_access.specs.Lent.{rows_lent};
 ghost use Rattle.hq_sql_eval.specs.Filtered.{Filters};
 ghost use Rattle.hq_sql_access.specs.View.{world_of};
@@ -56,7 +56,7 @@ fn keys_over<'d>(
 ) -> Result<Option<KeySet<'d>>, Memory>
     requires lent { rows_lent stored.now.rows ≡ rows.now }
     requires filters { Filters (world_of world.now) (pred_view pred.now) stored.now.table.now.columns rows.now alias.now (pred_view filter.now) }
-    ensures { IfOk result (λ found. IfSome found (λ s. IsKeySet (world_of world.now) (pred_view s.pred.now) s)) }
+    ensures { IfOk result (λ found. IfSome found (IsOwnSet (world_of world.now))) }
 {
     let outer = Names::Nothing;
     let names = Names::Named {
@@ -95,7 +95,7 @@ fn keys_of<'d>(
     world: &Pinned<'d>,
 ) -> Result<Option<KeySet<'d>>, Memory>
     requires { pred_view pred.now ≡ exists (select_view select.now) }
-    ensures { IfOk result (λ found. IfSome found (λ s. IsKeySet (world_of world.now) (pred_view s.pred.now) s)) }
+    ensures { IfOk result (λ found. IfSome found (IsOwnSet (world_of world.now))) }
 {
     let Select::Rows {
         from,
@@ -133,7 +133,7 @@ pub fn learned_keys<'d>(
     pred: &'d Pred,
     world: &Pinned<'d>,
 ) -> Result<Option<KeySet<'d>>, Memory>
-    ensures { IfOk result (λ found. IfSome found (λ s. IsKeySet (world_of world.now) (pred_view s.pred.now) s)) }
+    ensures { IfOk result (λ found. IfSome found (IsOwnSet (world_of world.now))) }
 {
     match pred {
         Pred::Exists(select) => keys_of(alloc, pred, select, world),

@@ -115,13 +115,13 @@ fn eval_stored<'d>(
     }
 }
 
-// How many rows EXISTS may try before it: one for every 32 rows that there are.
+// How many rows EXISTS may try before it: one for every 64 rows that there are.
 fn rows_to_try(tables: &[Stored<'_>]) -> u64 {
     let mut rows = 512u64;
     for stored in tables {
         rows = rows.saturating_add(stored.number() as u64);
     }
-    rows / 32
+    rows / 64
 }
 
 /// What a statement means over pinned tables: over each database in which the tables that it takes rows from have the rows

@@ -128,7 +128,7 @@ fn has_column(pairs: &ExprPairList, alias: &Txt) -> bool {
 }
 
 // The columns of fewer rows are found at each of them.
-const FEW: usize = 8;
+const FEW: usize = 3;
 
 /// An expression at so many rows, where it is an object with a column of the table that they stand in, and they are not few. A join
 /// of the table's alias would hide its columns.

@@ -7,7 +7,7 @@ ghost use Rattle.hq_load_index.specs.Keys.{cell_view as key_view};
 ghost use Rattle.hq_model.specs.Logic.{truth_of};
 ghost use Rattle.hq_sql_tree.specs.Meaning.{World, truth_at};
 ghost use Rattle.hq_sql_tree.specs.View.{pred_view};
-ghost use Rattle.hq_sql_access.specs.KeySets.{IsKeySet, keeps_key, link_keys};
+ghost use Rattle.hq_sql_access.specs.KeySets.{IsKeySet, IsOwnSet, keeps_key, link_keys};
 ghost use Rattle.hq_sql_scans.specs.ChosenKeys.{Gathers, KeepsKeys, chosen, is_key, picked};
 ghost use Rattle.hq_sql_access.specs.View.{names_of, scope_of, world_of};
 
@@ -216,7 +216,7 @@ pub fn key_set<'d>(
 ) -> Result<KeySet<'d>, Memory>
     requires keeps { KeepsKeys (world_of world.now) (pred_view pred.now) rows.now truths.now columns.now links.items }
     requires few { length truths.now < 2 ^ 31 }
-    ensures { IfOk result (λ s. IsKeySet (world_of world.now) (pred_view s.pred.now) s) }
+    ensures { IfOk result (λ s. IsOwnSet (world_of world.now) s) }
 {
     let grid = key_grid(alloc, rows, truths, columns)?;
     let width = columns.len();

@@ -23,7 +23,7 @@ pub struct OwnColumns {
 }
 
 // The columns of fewer rows are found at each of them.
-const FEW: usize = 8;
+const FEW: usize = 3;
 
 /// The column at this place of a list, where it has one.
 pub fn column_at(own: &[Option<ColId>], at: usize) -> Option<ColId>
