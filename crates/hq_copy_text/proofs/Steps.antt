@@ -30,8 +30,8 @@ module _ {V : Type 0} (f : Rel → V) (r : Rel) (rest : List Rel) where
       go r.many refl h
   of_kind false h =
       let go : (b : Bool) → r.many ≡ b → beq b false ≡ true
-        → map f (cond (not r.many) (r ∷ filter (λ x. not x.many) rest) (filter (λ x. not x.many) rest))
-          ≡ f r ∷ map f (filter (λ x. not x.many) rest) =
+      → map f (cond (not r.many) (r ∷ filter (λ x. not x.many) rest) (filter (λ x. not x.many) rest))
+      ≡ f r ∷ map f (filter (λ x. not x.many) rest) =
       elim [ true ↦ λ e g. absurd (false≢true g) | false ↦ λ e g. ap (λ b. map f (cond (not b) (r ∷ filter (λ x. not x.many) rest) (filter (λ x. not x.many) rest))) e ] in
       go r.many refl h
 

@@ -123,7 +123,7 @@ decided Equal p e = cc
 decided Greater p e = refl
 
 first_of : (d : Direction) (ds : List Direction) (xs ys : List CellTree) (o : Ordering)
-  → key_cmp d.desc d.nulls_first (first_cell xs) (first_cell ys) ≡ o → is_eq o ≡ false → keys_cmp (d ∷ ds) xs ys ≡ o
+    → key_cmp d.desc d.nulls_first (first_cell xs) (first_cell ys) ≡ o → is_eq o ≡ false → keys_cmp (d ∷ ds) xs ys ≡ o
 first_of d ds xs ys o e differs = ap (λ q. ordering_then q (keys_cmp ds (other_cells xs) (other_cells ys))) e ∙ decided o (keys_cmp ds (other_cells xs) (other_cells ys)) differs
 
 -- a front is that of a text

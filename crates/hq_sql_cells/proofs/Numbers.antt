@@ -71,10 +71,10 @@ runs_more n i more last x ns total lt is other so_far grown =
     elim [
       | None ↦ λ e. refl
       | Some y
-        ↦ λ e.
+          ↦ λ e.
           (let go : (b : Bool) → not b ≡ true
-             → length (cond b (pass same_number y rest) (x ∷ pass same_number x rest))
-               ≡ suc (length (pass same_number x rest)) = elim [ true ↦ λ k. cc | false ↦ λ k. refl ] in go (same_number y x) e)
+          → length (cond b (pass same_number y rest) (x ∷ pass same_number x rest))
+          ≡ suc (length (pass same_number x rest)) = elim [ true ↦ λ k. cc | false ↦ λ k. refl ] in go (same_number y x) e)
     ] in
     let here : n + length (pass_from same_number last (x ∷ rest)) ≡ total = ap (λ l. n + length (pass_from same_number last l)) (sym (next_number ns i x lt is)) ∙ so_far in
     let long = begins last other in
@@ -89,10 +89,10 @@ runs_stay n i last x ns total lt is other so_far =
     elim [
       | None ↦ λ e. cc
       | Some y
-        ↦ λ e.
+          ↦ λ e.
           (let go : (b : Bool) → not b ≡ false
-             → cond b (pass same_number y rest) (x ∷ pass same_number x rest)
-               ≡ pass same_number y rest = elim [ true ↦ λ k. refl | false ↦ λ k. cc ] in go (same_number y x) e)
+          → cond b (pass same_number y rest) (x ∷ pass same_number x rest)
+          ≡ pass same_number y rest = elim [ true ↦ λ k. refl | false ↦ λ k. cc ] in go (same_number y x) e)
     ] in
     ap (λ l. n + length l) (sym (stays last other)) ∙ ap (λ l. n + length (pass_from same_number last l)) (sym (next_number ns i x lt is)) ∙ so_far
 

@@ -41,7 +41,7 @@ pub tested_rows : (w : World) (p : PredTree) (columns : List Column) (alias : Li
 tested_rows w p columns alias ts rows lent before truths are same e =
     e ∙ ap (narrowed before)
     (map_same (one_holds ts) (λ row. kept_one p w (with_alias nothing alias (named_row columns row))) rows
-      (λ row. sym
-         (are.keeps row (with_alias nothing alias (named_row columns row)) (ap (λ b. cond b (named_row columns row) []) (same_bytes alias))))
+    (λ row. sym
+    (are.keeps row (with_alias nothing alias (named_row columns row)) (ap (λ b. cond b (named_row columns row) []) (same_bytes alias))))
     ∙ sym (map_map (λ row. kept_one p w (with_alias nothing alias row)) (named_row columns) rows)
     ∙ ap (λ rs. map (λ row. kept_one p w (with_alias nothing alias row)) (map (named_row columns) rs)) (sym same))

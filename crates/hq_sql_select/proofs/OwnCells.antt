@@ -47,7 +47,7 @@ alias_here from a js w n place alone =
 
 -- a column of the alias of a table
 pub own_is : (stored : Bor Stored) (a : List ℕ) (js : JoinTrees) (e : ExprTree) (at : ℕ) → is_joined js a ≡ false
-  → IsOwn stored.now.table.now.columns a e at → IsCellOf (source.Stored stored) a js e at
+    → IsOwn stored.now.table.now.columns a e at → IsCellOf (source.Stored stored) a js e at
 own_is stored a js e at alone own =
     record {
       cell = λ w n place.

@@ -395,7 +395,7 @@ scans::add_row-returns-in_ok-lists-in-Kept t c =
 pub scans::scan_from-add_row-requires : goal.scans::scan_from-add_row-requires
 scans::scan_from-add_row-requires t c =
     let told : Tells (world_of c.args.world.now) (joins_of (map join_view c.args.joins.now)) (filter_view c.args.filter.now)
-      c.args.alias.now (row_in c.args.source c.position_at-position.result) c.in_ok-verdict.verdict =
+    c.args.alias.now (row_in c.args.source c.position_at-position.result) c.in_ok-verdict.verdict =
     c.in_ok-verdict.ensures in (
       omega arith,
       told_there (joins_of (map join_view c.args.joins.now)) c.args.filter.now c.args.world.now (names_of c.args.scope.now c.args.world.now) c.args.alias.now

@@ -12,8 +12,8 @@ pub returns : goal.returns
 returns g c =
     let order = c.args.order.now in
     let sorted =
-        sorted_by_closure (keys_cmp_total order) (λ (f : Fronted _). keys_of f.kept) c.in_ok-all.all.items _ c.in_ok-sort_by.ensures.sorted
-          c.in_ok-sort_by.ensures.stable (λ a r f' k. search rules) in
+    sorted_by_closure (keys_cmp_total order) (λ (f : Fronted _). keys_of f.kept) c.in_ok-all.all.items _ c.in_ok-sort_by.ensures.sorted
+    c.in_ok-sort_by.ensures.stable (λ a r f' k. search rules) in
     IfOk-weaker c.without_fronts.result _ _
     (λ rows is. is ∙ ap (map (λ (f : Fronted _). f.kept)) sorted ∙ sym (sort_map (λ (f : Fronted _). f.kept) (on keys_of (keys_cmp order)) c.in_ok-all.all.items)
     ∙ ap (sort (on keys_of (keys_cmp order))) c.in_ok-all.ensures)
