@@ -16,9 +16,3 @@ pub record Output : Type 0 where
 -- how many more bytes a sink has room for
 abbrev pub free : Output → ℕ
 free out = out.room - length out.written
-
--- a disk: the bytes that it has, how many it has room for in all, and its calls
-pub record Held : Type 0 where
-  pub bytes : List ℕ
-  pub room : ℕ
-  pub calls : Calls

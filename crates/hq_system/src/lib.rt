@@ -1,7 +1,6 @@
 //! The streams, files and sockets of the system as objects of the outside. They tell nothing of content, and count each fault.
 #![tactic(auto)]
 
-mod disk;
 mod files;
 mod interrupted;
 mod link;
@@ -9,7 +8,6 @@ mod silent;
 mod streams;
 mod tcp;
 
-pub use disk::FileDisk;
 pub use files::DirFiles;
 pub use link::TcpLink;
 pub use streams::{StdSink, StdSource};

@@ -50,7 +50,7 @@ key_cells [] row = refl
 key_cells (c ∷ columns) row = ap (λ cells. cell_of (get_or row c val.Null) ∷ cells) (key_cells columns row)
 
 -- an index takes two keys as one where their values are not distinct
-pub same_key-values : (t : Table) (rows : List Row) (i j : ℕ) → same_key t.key rows i j ≡ same_values (key_of t (get_or rows i [])) (key_of t (get_or rows j []))
+same_key-values : (t : Table) (rows : List Row) (i j : ℕ) → same_key t.key rows i j ≡ same_values (key_of t (get_or rows i [])) (key_of t (get_or rows j []))
 same_key-values t rows i j =
     ap₂ (λ k l. is_eq (keys_cmp k l)) (key_cells t.key (get_or rows i [])) (key_cells t.key (get_or rows j []))
     ∙ values_tie (key_of t (get_or rows i [])) (key_of t (get_or rows j []))

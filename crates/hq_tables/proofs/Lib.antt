@@ -11,4 +11,3 @@ pub mod Keys
 pub mod NextRows
 pub mod Valid
 pub mod Indexed
-pub mod Apart

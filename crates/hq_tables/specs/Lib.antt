@@ -11,4 +11,3 @@ pub mod Keys
 pub mod Readers
 pub mod Layouts
 pub mod Indexed
-pub mod Tested

@@ -8,7 +8,6 @@ mod mem_tables;
 mod rows;
 mod table_set;
 mod tables;
-mod tested;
 
 pub use flaky_tables::FlakyTables;
 pub use load::{LoadRefusal, load_table};

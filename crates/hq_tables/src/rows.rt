@@ -1,12 +1,11 @@
 ghost use Rattle.std.specs.Prelude.{◌≡◌, ◌++◌, ◌<◌, ◌^◌, ℕ, [], true, flat_map, length, IfOk, OnOk, option_copied, slice_get, slice_index_or};
 ghost use Rattle.hq_index.specs.Grids.{rows_in};
 ghost use Rattle.hq_index.specs.Indexes.{IsOver};
-ghost use Rattle.hq_index.specs.Repeats.{TellsRepeat};
 ghost use Rattle.hq_index.specs.declared.index.Index.{Index};
 ghost use Rattle.hq_terms.specs.Database.{are_rows};
 
 use hq_base::{List, Memory, Val};
-use hq_index::{Grid, Index, Keyed};
+use hq_index::{Grid, Index};
 use hq_terms::{ColId, ColList, Table};
 use std::alloc::Global;
 use std::marker::Model;
@@ -67,15 +66,6 @@ fn index_over(alloc: Global, grid: &Grid, columns: &ColList) -> Result<Index, Me
     ensures { IfOk result (IsOver (rows_in grid.now)) }
 {
     Index::build(alloc, grid, Vec::from_slice(alloc, columns.as_slice())?)
-}
-
-/// The index over the primary key, and the first key that is repeated.
-pub(crate) fn keyed_index(alloc: Global, grid: &Grid, table: &Table) -> Result<Keyed, Memory>
-    requires { length (rows_in grid.now) < 2 ^ 31 }
-    ensures over { IfOk result (λ keyed. IsOver (rows_in grid.now) keyed.index) }
-    ensures repeat { IfOk result (λ keyed. TellsRepeat table.now.key (rows_in grid.now) keyed.repeat) }
-{
-    Index::build_keyed(alloc, grid, Vec::from_slice(alloc, table.key.as_slice())?)
 }
 
 // The index over the primary key, and one over the columns of each foreign key.

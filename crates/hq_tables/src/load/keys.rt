@@ -1,14 +1,26 @@
-ghost use Rattle.std.specs.Prelude.{◌^◌, ◌<◌, [], length};
+ghost use Rattle.std.specs.Prelude.{◌^◌, ◌<◌, [], length, IfOk};
 ghost use Rattle.hq_base.specs.Due.{Gives};
 ghost use Rattle.hq_index.specs.Grids.{rows_in};
+ghost use Rattle.hq_index.specs.Indexes.{IsOver};
+ghost use Rattle.hq_index.specs.Repeats.{TellsRepeat};
 ghost use Rattle.hq_tables.specs.Keys.{keys_due};
 ghost use Rattle.hq_tables.specs.declared.load.refusal.LoadRefusal.TheVariants as refusal;
 
 use super::rows::ReadRows;
-use crate::rows::keyed_index;
 use crate::{LoadRefusal, Rows};
+use hq_base::Memory;
+use hq_index::{Grid, Index, Keyed};
 use hq_terms::Table;
 use std::alloc::Global;
+
+// The index over the primary key, and the first key that is repeated.
+fn keyed_index(alloc: Global, grid: &Grid, table: &Table) -> Result<Keyed, Memory>
+    requires { length (rows_in grid.now) < 2 ^ 31 }
+    ensures over { IfOk result (λ keyed. IsOver (rows_in grid.now) keyed.index) }
+    ensures repeat { IfOk result (λ keyed. TellsRepeat table.now.key (rows_in grid.now) keyed.repeat) }
+{
+    Index::build_keyed(alloc, grid, Vec::from_slice(alloc, table.key.as_slice())?)
+}
 
 /// The rows, where no two have one key and the record behind them was not refused. The index over the primary key finds a
 /// key that is repeated.

@@ -1,7 +1,0 @@
-mod Answers
-mod Filters
-mod Apart
-mod Alike
-mod Plain
-mod Running
-mod Worked

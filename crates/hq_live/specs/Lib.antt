@@ -1,6 +1,0 @@
-pub mod Asking
-pub mod Answers
-pub mod Steps
-pub mod LiveRun
-pub mod Runs
-pub mod Memory
