@@ -4,7 +4,7 @@ use Rattle.std.specs.Fmt.{decimal}
 use Rattle.hq_catalog_read.specs.declared.refusal.CatalogRefusal.{CatalogRefusal}
 use Rattle.hq_catalog_read.specs.declared.refusal.CatalogRefusal.TheVariants as catalog
 use Rattle.hq_loading.specs.declared.phrase.Phrase.{Phrase}
-use Rattle.hq_loading.specs.declared.phrase.Phrase.TheVariants.{Missing, TooLarge, NotJson, Shape, Repeated, NoKey, NameLength, TooMany, Header, Width, NotUtf8, ZeroByte, NotInteger, NotBoolean, NullInNotNull, Unclosed, RepeatedKey, Version, UnknownTable, UnknownColumn, NoForeignKey, BadOperand, BadMapping, RepeatedName, RepeatedRole, Sources, Memory}
+use Rattle.hq_loading.specs.declared.phrase.Phrase.TheVariants.{Missing, TooLarge, NotJson, Shape, Repeated, NoKey, NameLength, TooMany, Header, Width, NotUtf8, ZeroByte, NotInteger, NotBoolean, NullInNotNull, RepeatedKey, Version, UnknownTable, UnknownColumn, NoForeignKey, BadOperand, BadMapping, RepeatedName, RepeatedRole, Sources, Memory}
 use Rattle.hq_meta_tables.specs.declared.refusal.MetaRefusal.{MetaRefusal}
 use Rattle.hq_meta_tables.specs.declared.refusal.MetaRefusal.TheVariants as meta
 use Rattle.hq_tables.specs.declared.load.refusal.LoadRefusal.{LoadRefusal}
@@ -67,7 +67,6 @@ table_name (table.ZeroByte line col) = ZeroByte
 table_name (table.NotInteger line col) = NotInteger
 table_name (table.NotBoolean line col) = NotBoolean
 table_name (table.NullInNotNull line col) = NullInNotNull
-table_name (table.Unclosed line) = Unclosed
 table_name (table.RepeatedKey line earlier) = RepeatedKey
 table_name table.Memory = Memory
 
@@ -79,7 +78,6 @@ table_fields (table.ZeroByte line col) = decimal line ∷ decimal col ∷ []
 table_fields (table.NotInteger line col) = decimal line ∷ decimal col ∷ []
 table_fields (table.NotBoolean line col) = decimal line ∷ decimal col ∷ []
 table_fields (table.NullInNotNull line col) = decimal line ∷ decimal col ∷ []
-table_fields (table.Unclosed line) = decimal line ∷ []
 table_fields (table.RepeatedKey line earlier) = decimal line ∷ decimal earlier ∷ []
 table_fields table.Memory = []
 

@@ -8,7 +8,7 @@ use Rattle.hq_loading.specs.declared.parts.Field.TheVariants.{Text, Number}
 use Rattle.hq_loading.specs.declared.parts.Fields.{Fields}
 use Rattle.hq_loading.specs.declared.parts.Fields.TheVariants.{Zero, One, Two}
 use Rattle.hq_loading.specs.declared.phrase.Phrase.{Phrase}
-use Rattle.hq_loading.specs.declared.phrase.Phrase.TheVariants.{Hq, Colon, Space, End, BadArguments, ReadFailed, WriteFailed, DatabaseFailed, OutOfMemory, InputTooLong, Missing, TooLarge, NotJson, Shape, Repeated, NoKey, NameLength, TooMany, Header, Width, NotUtf8, ZeroByte, NotInteger, NotBoolean, NullInNotNull, Unclosed, RepeatedKey, Version, UnknownTable, UnknownColumn, NoForeignKey, BadOperand, BadMapping, RepeatedName, RepeatedRole, Sources, Memory, Ok, Tables, Roles, Rows}
+use Rattle.hq_loading.specs.declared.phrase.Phrase.TheVariants.{Hq, Colon, Space, End, BadArguments, ReadFailed, WriteFailed, DatabaseFailed, OutOfMemory, InputTooLong, Missing, TooLarge, NotJson, Shape, Repeated, NoKey, NameLength, TooMany, Header, Width, NotUtf8, ZeroByte, NotInteger, NotBoolean, NullInNotNull, RepeatedKey, Version, UnknownTable, UnknownColumn, NoForeignKey, BadOperand, BadMapping, RepeatedName, RepeatedRole, Sources, Memory, Ok, Tables, Roles, Rows}
 
 -- the text of a phrase
 unfoldable pub phrase_text : Phrase → List ℕ
@@ -37,7 +37,6 @@ phrase_text ZeroByte = codes "ZeroByte"
 phrase_text NotInteger = codes "NotInteger"
 phrase_text NotBoolean = codes "NotBoolean"
 phrase_text NullInNotNull = codes "NullInNotNull"
-phrase_text Unclosed = codes "Unclosed"
 phrase_text RepeatedKey = codes "RepeatedKey"
 phrase_text Version = codes "Version"
 phrase_text UnknownTable = codes "UnknownTable"

@@ -109,7 +109,6 @@ fn table_name(refusal: &LoadRefusal) -> Phrase
         LoadRefusal::NotInteger { .. } => Phrase::NotInteger,
         LoadRefusal::NotBoolean { .. } => Phrase::NotBoolean,
         LoadRefusal::NullInNotNull { .. } => Phrase::NullInNotNull,
-        LoadRefusal::Unclosed { .. } => Phrase::Unclosed,
         LoadRefusal::RepeatedKey { .. } => Phrase::RepeatedKey,
         LoadRefusal::Memory => Phrase::Memory,
     }
@@ -120,9 +119,7 @@ fn table_fields(refusal: &LoadRefusal) -> Fields<'_>
     ensures { field_texts result ≡ table_fields refusal.now }
 {
     match refusal {
-        LoadRefusal::Width { line } | LoadRefusal::Unclosed { line } => {
-            Fields::One(Field::Number(*line))
-        }
+        LoadRefusal::Width { line } => Fields::One(Field::Number(*line)),
         LoadRefusal::NotUtf8 { line, col }
         | LoadRefusal::ZeroByte { line, col }
         | LoadRefusal::NotInteger { line, col }
