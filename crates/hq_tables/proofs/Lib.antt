@@ -2,8 +2,6 @@ pub mod Databases
 pub mod Readers
 pub mod Fields
 pub mod Headers
-pub mod Marks
-pub mod Unclosed
 pub mod Placed
 pub mod Records
 pub mod Arranged

@@ -4,7 +4,6 @@ pub mod Databases
 pub mod Flaky
 pub mod Field
 pub mod Header
-pub mod Unclosed
 pub mod Load
 pub mod Places
 pub mod Keys

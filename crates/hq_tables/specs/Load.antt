@@ -14,7 +14,6 @@ use Rattle.hq_tables.specs.declared.field.FieldRefusal.{FieldRefusal}
 use Rattle.hq_tables.specs.declared.field.FieldRefusal.TheVariants as field
 use Rattle.hq_tables.specs.declared.load.refusal.LoadRefusal.{LoadRefusal}
 use Rattle.hq_tables.specs.declared.load.refusal.LoadRefusal.TheVariants.{Header, Width, NotUtf8, ZeroByte, NotInteger, NotBoolean, NullInNotNull, RepeatedKey, Memory}
-use Rattle.hq_tables.specs.Unclosed.{closed_due, ends_inside}
 
 -- the refusal of a field with its place
 abbrev pub refusal_at : (line col : ℕ) → FieldRefusal → LoadRefusal
@@ -64,7 +63,6 @@ abbrev pub file_due : Table → List (List (List ℕ)) → Result (List Row) Loa
 file_due t [] = Err Header
 file_due t (names ∷ rest) = and_then (λ columns. rows_due t names columns [] rest) (ok_or (header_due t.columns names) Header)
 
--- the rows of a table file, or the first refusal; a record inside which the file ends is refused as such
+-- the rows of a table file, or the first refusal
 abbrev pub table_due : Table → List ℕ → Result (List Row) LoadRefusal
-table_due t bytes =
-    closed_due (ends_inside bytes) (length (records default_config (strip_bom bytes))) (file_due t (records default_config (strip_bom bytes)))
+table_due t bytes = file_due t (records default_config (strip_bom bytes))

@@ -3,24 +3,20 @@
 mod header;
 mod keys;
 mod layout;
-mod quotes;
 mod record;
 mod records;
 mod refusal;
 mod rows;
 
-ghost use Rattle.std.specs.Prelude.{◌≡◌, ◌⊎◌, ◌≤◌, ◌^◌, true, length, None, Ok, IfOk, List as Items, MatchResult, Result as Outcome};
-ghost use Rattle.csv.specs.Reading.{default_config, records, strip_bom};
+ghost use Rattle.std.specs.Prelude.{◌≡◌, ◌⊎◌, ◌≤◌, ◌^◌, true, length, None, IfOk, MatchResult};
 ghost use Rattle.csv.specs.Records.{fields_of};
 ghost use Rattle.hq_base.specs.Due.{Gives};
 ghost use Rattle.hq_index.specs.Grids.{rows_in};
-ghost use Rattle.hq_terms.specs.Database.{Row, are_rows};
+ghost use Rattle.hq_terms.specs.Database.{are_rows};
 ghost use Rattle.hq_tables.specs.Header.{header_due, names_differ};
 ghost use Rattle.hq_tables.specs.Keys.{ReadsUnder};
 ghost use Rattle.hq_tables.specs.Load.{file_due, table_due};
 ghost use Rattle.hq_tables.specs.Readers.{IsReading, left_of};
-ghost use Rattle.hq_tables.specs.Unclosed.{closed_due, ends_inside};
-ghost use Rattle.hq_tables.specs.declared.load.refusal.LoadRefusal.{LoadRefusal as Refusal};
 ghost use Rattle.hq_tables.specs.declared.load.refusal.LoadRefusal.TheVariants as refusal;
 
 use crate::Rows;
@@ -29,8 +25,7 @@ use hq_outside::LARGEST_FILE;
 use hq_terms::Table;
 use keys::with_keys;
 use layout::Layout;
-use quotes::ends_inside;
-use records::{FileReader, count_records, file_reader, next_record};
+use records::{FileReader, file_reader, next_record};
 pub use refusal::LoadRefusal;
 use rows::{ReadRows, read_rows};
 use std::alloc::Global;
@@ -71,22 +66,6 @@ fn rows_of(alloc: Global, reader: &mut FileReader<'_>, table: &Table) -> Result<
     with_keys(alloc, read, table)
 }
 
-// What is due of a file whose records give these rows or this refusal: where it ends inside a quoted field, its last record is refused.
-fn closed(alloc: Global, bytes: &[u8], read: Result<Rows, LoadRefusal>) -> Result<Rows, LoadRefusal>
-    requires small { length bytes.now ≤ LARGEST_FILE }
-    ensures due { (due : Outcome (Items Row) Refusal) → Gives (λ rows. rows) refusal.Memory due read → Gives (λ rows. rows) refusal.Memory (closed_due (ends_inside bytes.now) (length (records default_config (strip_bom bytes.now))) due) result }
-    ensures rows { IfOk result (λ rows. read ≡ Ok rows) }
-{
-    if !ends_inside(bytes) {
-        return read;
-    }
-    let last = count_records(alloc, bytes)? as u64;
-    match read {
-        Ok(_) => Err(LoadRefusal::Unclosed { line: last }),
-        Err(refusal) => Err(refusal.or_unclosed(last)),
-    }
-}
-
 /// The rows of a table's file, in file order, or its first refusal. The column names of the table differ, as those of a
 /// catalog's table do, and the file has at most 268,435,456 bytes, as one that `Files::load` gives.
 pub fn load_table(alloc: Global, bytes: &[u8], table: &Table) -> Result<Rows, LoadRefusal>
@@ -95,6 +74,5 @@ pub fn load_table(alloc: Global, bytes: &[u8], table: &Table) -> Result<Rows, Lo
     ensures due { Gives (λ rows. rows) refusal.Memory (table_due table.now bytes.now) result }
     ensures valid { IfOk result (λ rows. are_rows table.now rows ≡ true) }
 {
-    let read = rows_of(alloc, &mut file_reader(alloc, bytes), table);
-    closed(alloc, bytes, read)
+    rows_of(alloc, &mut file_reader(alloc, bytes), table)
 }

@@ -1,11 +1,10 @@
-ghost use Rattle.std.specs.Prelude.{◌≡◌, ◌≤◌, ◌∷◌, [], length, IfOk, if◌then◌else◌, true};
+ghost use Rattle.std.specs.Prelude.{◌≡◌, ◌∷◌, [], IfOk, if◌then◌else◌, true};
 ghost use Rattle.csv.specs.Reading.{default_config, records, strip_bom};
 ghost use Rattle.csv.specs.Records.{fields_of};
 ghost use Rattle.hq_tables.specs.Readers.{IsReading, left_of};
 
 use csv::{ByteRecord, Reader, ReaderBuilder};
 use hq_base::Memory;
-use hq_outside::LARGEST_FILE;
 use std::alloc::Global;
 
 /// A reader of a file's records. Their widths may differ.
@@ -20,20 +19,6 @@ pub fn file_reader(alloc: Global, bytes: &[u8]) -> FileReader<'_>
         .has_headers(false)
         .flexible(true)
         .from_reader(alloc, bytes)
-}
-
-/// How many records a file has, the header among them.
-pub fn count_records(alloc: Global, bytes: &[u8]) -> Result<usize, Memory>
-    requires { length bytes.now ≤ LARGEST_FILE }
-    ensures { IfOk result (λ count. count ≡ length (records default_config (strip_bom bytes.now))) }
-{
-    let mut reader = file_reader(alloc, bytes);
-    let mut fields = ByteRecord::new(alloc);
-    let mut count = 0usize;
-    'records: while next_record(&mut reader, &mut fields)? {
-        count += 1;
-    }
-    Ok(count)
 }
 
 /// Reads the next record into the place of this one, and says whether there was one.

@@ -28,9 +28,6 @@ pub enum LoadRefusal {
     NotBoolean { line: u64, col: u64 },
     #[error("field {col} of record {line} is NULL")]
     NullInNotNull { line: u64, col: u64 },
-    /// The file ends inside a quoted field of this record, its last.
-    #[error("the file ends inside a quoted field of record {line}")]
-    Unclosed { line: u64 },
     /// The record's key is that of an earlier one.
     #[error("the key of record {line} is that of record {earlier}")]
     RepeatedKey { line: u64, earlier: u64 },
@@ -51,38 +48,6 @@ impl<T: Drop> From<AllocFailed<T>> for LoadRefusal {
 
     fn from(_: AllocFailed<T>) -> Self {
         LoadRefusal::Memory
-    }
-}
-
-impl LoadRefusal {
-    ghost use Rattle.hq_tables.specs.Unclosed.{refused_record, unclosed_unless};
-
-    /// The number of the record that it is of. Want of memory is of none.
-    pub fn record(self) -> Option<u64>
-        ensures { result ≡ refused_record self }
-    {
-        match self {
-            LoadRefusal::Header => Some(1),
-            LoadRefusal::Width { line }
-            | LoadRefusal::NotUtf8 { line, .. }
-            | LoadRefusal::ZeroByte { line, .. }
-            | LoadRefusal::NotInteger { line, .. }
-            | LoadRefusal::NotBoolean { line, .. }
-            | LoadRefusal::NullInNotNull { line, .. }
-            | LoadRefusal::Unclosed { line }
-            | LoadRefusal::RepeatedKey { line, .. } => Some(line),
-            LoadRefusal::Memory => None,
-        }
-    }
-
-    /// The refusal of a file that ends inside a quoted field of its last record, where this one is due of its records.
-    pub fn or_unclosed(self, last: u64) -> LoadRefusal
-        ensures { result ≡ unclosed_unless last self }
-    {
-        match self.record() {
-            Some(line) if line >= last => LoadRefusal::Unclosed { line: last },
-            _ => self,
-        }
     }
 }
 
