@@ -79,7 +79,7 @@ fn main(rt: HostRuntime) -> ExitCode {
     };
     let world = World {
         files: DirFiles::new(rt),
-        door: TcpDoor::new(alloc, rt),
+        door: TcpDoor::new(rt),
         input: StdSource::new(rt.stdin()),
         out: StdSink::new(rt.stdout()),
         err,

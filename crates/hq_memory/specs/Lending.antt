@@ -8,22 +8,20 @@ use Rattle.std.proofs.lemmas.List.{set-set}
 use Rattle.hq_memory.specs.declared.link_row.LinkRow.{LinkRow}
 use Rattle.hq_memory.specs.LinkRow.{present_in, links_in, with_link_in}
 
--- by cases on whether no link is accepted, and on whether the last one is open
-present_after : {L : Type 0} (none is_open : Bool) (link other : L) → IsSome (if none then None else (if is_open then Some link else None)) →
-    (if none then None else (if is_open then Some other else None)) ≡ Some other
-present_after false true link other some = refl
-present_after false false link other some = absurd (false≢true some)
-present_after true is_open link other some = absurd (false≢true some)
+-- by cases on whether no link is accepted
+present_after : {L : Type 0} (none : Bool) (link other : L) → IsSome (if none then None else Some link) → (if none then None else Some other) ≡ Some other
+present_after false link other some = refl
+present_after true link other some = absurd (false≢true some)
 
-links_after : {L : Type 0} (none is_open : Bool) (places : List L) (at : ℕ) (link other : L) → IsSome (if none then None else (if is_open then Some link else None)) →
+links_after : {L : Type 0} (none : Bool) (places : List L) (at : ℕ) (link other : L) → IsSome (if none then None else Some link) →
     (if none then places else slice_set places at other) ≡ slice_set (if none then places else slice_set places at link) at other
-links_after false is_open places at link other some = sym (set-set places at link other)
-links_after true is_open places at link other some = absurd (false≢true some)
+links_after false places at link other some = sym (set-set places at link other)
+links_after true places at link other some = absurd (false≢true some)
 
 -- the link that was put in place of the present one is present
 pub present_in-with_link_in : {L : Type 0} (row : LinkRow L) (link : L) → IsSome (present_in row) → present_in (with_link_in row link) ≡ Some link
-present_in-with_link_in row link some = present_after (row.accepted == 0) row.is_open row.present link some
+present_in-with_link_in row link some = present_after (row.accepted == 0) row.present link some
 
 -- and it stands at its place
 pub links_in-with_link_in : {L : Type 0} (row : LinkRow L) (link : L) → IsSome (present_in row) → links_in (with_link_in row link) ≡ slice_set (links_in row) (row.accepted - 1) link
-links_in-with_link_in row link some = links_after (row.accepted == 0) row.is_open row.places.items (row.accepted - 1) row.present link some
+links_in-with_link_in row link some = links_after (row.accepted == 0) row.places.items (row.accepted - 1) row.present link some

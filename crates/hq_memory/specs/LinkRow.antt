@@ -4,9 +4,9 @@ use Rattle.std.specs.declared.option.Option.{Option}
 use Rattle.std.specs.declared.option.Option.TheVariants.{None, Some}
 use Rattle.hq_memory.specs.declared.link_row.LinkRow.{LinkRow}
 
--- the link accepted last, until it is closed
+-- the link accepted last
 abbrev pub present_in : {L : Type 0} → LinkRow L → Option L
-present_in row = if row.accepted == 0 then None else (if row.is_open then Some row.present else None)
+present_in row = if row.accepted == 0 then None else Some row.present
 
 -- all links, the present one at its place
 abbrev pub links_in : {L : Type 0} → LinkRow L → List L

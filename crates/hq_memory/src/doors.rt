@@ -100,10 +100,6 @@ impl Door for MemDoor {
         self.row.link()
     }
 
-    fn close(&mut self, _unread: bool) {
-        self.row.close();
-    }
-
     ghost use Rattle.hq_memory.specs.Lending.{present_in-with_link_in, links_in-with_link_in};
     ghost use Rattle.std.specs.Prelude.{refl};
     ghost use Rattle.std.proofs.Common.{ap};
@@ -166,10 +162,6 @@ impl Door for SureDoor {
 
     fn link(&mut self) -> &mut SureLink {
         self.row.link()
-    }
-
-    fn close(&mut self, _unread: bool) {
-        self.row.close();
     }
 
     ghost use Rattle.hq_memory.specs.Lending.{present_in-with_link_in, links_in-with_link_in};

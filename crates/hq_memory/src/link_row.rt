@@ -1,4 +1,4 @@
-ghost use Rattle.std.specs.Prelude.{◌≡◌, None, Some, option_copied, unwrap_or, slice_get, slice_set};
+ghost use Rattle.std.specs.Prelude.{◌≡◌, Some, option_copied, unwrap_or, slice_get, slice_set};
 
 use std::mem;
 
@@ -8,7 +8,6 @@ use std::mem;
 pub struct LinkRow<L> {
     pub places: Vec<L>,
     pub present: L,
-    pub is_open: bool,
     pub accepted: u64,
 }
 
@@ -26,7 +25,6 @@ impl<L> LinkRow<L> {
         LinkRow {
             places: links,
             present: spare,
-            is_open: false,
             accepted: 0,
         }
     }
@@ -68,17 +66,7 @@ impl<L> LinkRow<L> {
     {
         self.put_back();
         self.take_next(spare);
-        self.is_open = true;
         self.accepted = self.accepted.saturating_add(1);
-    }
-
-    /// From then on no link is present.
-    pub fn close(&mut self)
-        ensures links { links_in self.new ≡ links_in self.old }
-        ensures present { present_in self.new ≡ None }
-        ensures accepted { self.new.accepted ≡ self.old.accepted }
-    {
-        self.is_open = false;
     }
 
     /// The link at this place, counted from 0.

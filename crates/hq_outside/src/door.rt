@@ -1,4 +1,4 @@
-ghost use Rattle.std.specs.Prelude.{◌≡◌, ℕ, List, IsNone, IsSome, OnOk, OnErr, Some};
+ghost use Rattle.std.specs.Prelude.{◌≡◌, ℕ, List, IsSome, OnOk, OnErr, Some};
 ghost use Rattle.std.specs.Borrow.{sem, Lends};
 ghost use Rattle.std.specs.declared.option.Option.{Option};
 ghost use Rattle.hq_outside.specs.Causes.{HasCause, one_more};
@@ -26,7 +26,7 @@ pub trait Door {
     /// How many links were accepted. At the last value of a `u64` the count stays.
     ghost accepted: { Self → ℕ };
 
-    /// The link that was accepted last, until it is closed.
+    /// The link that was accepted last.
     ghost present: { Self → Option Self.Link };
 
     /// How often it has failed.
@@ -61,14 +61,6 @@ pub trait Door {
         requires { IsSome (present self.old) }
         ensures* lends { sem 𝓛 (Lends Self.row Self.Link.row self.entry result (with_link self.entry.now)) }
         ensures value { present self.old ≡ Some result.now };
-
-    /// Ends the present link, so that its peer sees the end of what is written. Where input may be left `unread`, some of
-    /// it may be taken and thrown away first, so that the peer is not kept from reading. It may wait for the peer.
-    fn close(&mut self, unread: bool)
-        ensures present { IsNone (present self.new) }
-        ensures links { links self.new ≡ links self.old }
-        ensures accepted { accepted self.new ≡ accepted self.old }
-        ensures faults { faults self.new ≡ faults self.old };
 
     ghost with_link_present: { (door : Self) (link : Self.Link) → IsSome (present door) → present (with_link door link) ≡ Some link };
 

@@ -1,4 +1,4 @@
-ghost use Rattle.std.specs.Prelude.{◌≡◌, ◌≤◌, ◌<◌, ◌+◌, ◌-◌, ◌^◌, ℕ, List, OnErr, OnOk, IfOk, IsErrOf, IsNone};
+ghost use Rattle.std.specs.Prelude.{◌≡◌, ◌≤◌, ◌<◌, ◌+◌, ◌-◌, ◌^◌, ℕ, List, OnErr, OnOk, IfOk, IsErrOf};
 ghost use Rattle.hq_base.specs.declared.reply.Reply.{Reply};
 ghost use Rattle.hq_session.specs.declared.header.Header.{Header};
 ghost use Rattle.std.specs.Io.KnownBytes.{Appends};
@@ -77,19 +77,7 @@ fn write_line<K: Sink>(
     Ok(())
 }
 
-// Whether input may be left that was not read, where a connection has ended so: its last reply did not wait for it.
-fn leaves_input(end: ConnEnd) -> bool {
-    match end {
-        ConnEnd::Refused { .. } | ConnEnd::Spent => true,
-        ConnEnd::Ended
-        | ConnEnd::Cut { .. }
-        | ConnEnd::ReadFault
-        | ConnEnd::WriteFault
-        | ConnEnd::Memory => false,
-    }
-}
-
-// Accepts the next connection, serves it, and closes it.
+// Accepts the next connection, and serves it.
 fn serve_next<D: Door, H: Responder>(
     alloc: Global,
     door: &mut D,
@@ -102,21 +90,17 @@ fn serve_next<D: Door, H: Responder>(
     ensures cause { HasCause (D.faults door.old) (D.faults door.new) result }
     ensures links { OnErr result (D.links door.new ≡ D.links door.old) }
     ensures accepted_err { OnErr result (D.accepted door.new ≡ D.accepted door.old) }
-    ensures closed { OnOk result (IsNone (D.present door.new)) }
-    ensures present_err { OnErr result (D.present door.new ≡ D.present door.old) }
     ensures unasked { OnErr result (responder.new ≡ responder.old) }
     ensures later { H.faults responder.old ≤ H.faults responder.new }
     ensures same_deny { (headers : List Header) → H.may_deny responder.new headers → H.may_deny responder.old headers }
     ensures same_give { (headers : List Header) (body : List ℕ) (reply : Reply) → H.may_give responder.new headers body reply → H.may_give responder.old headers body reply }
 {
     door.accept()?;
-    let end = serve_connection(alloc, door.link(), responder);
-    door.close(leaves_input(end));
-    Ok(end)
+    Ok(serve_connection(alloc, door.link(), responder))
 }
 
-/// Serves so many connections of a door that listens, one after the other, closes each at its end, and writes
-/// `connection K: END` and a line end after it, K from 1 on. It ends before that where the door, the sink or memory fails, and not where a link does.
+/// Serves so many connections of a door that listens, one after the other, and writes `connection K: END` and a line end
+/// after each, K from 1 on. It ends before that where the door, the sink or memory fails, and not where a link does.
 pub fn serve<D: Door, H: Responder, K: Sink>(
     alloc: Global,
     door: &mut D,
@@ -133,9 +117,6 @@ pub fn serve<D: Door, H: Responder, K: Sink>(
     // A failure is told only where that count rose.
     ensures door { IsErrOf result ServeRefusal.DoorFailed → Rose (D.faults door.old) (D.faults door.new) }
     ensures write { IsErrOf result ServeRefusal.WriteFailed → Rose (K.faults out.old) (K.faults out.new) }
-
-    // No link stays open.
-    ensures closed { IsNone (D.present door.old) → IsNone (D.present door.new) }
 
     // No count falls.
     ensures door_later { D.faults door.old ≤ D.faults door.new }

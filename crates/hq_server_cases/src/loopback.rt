@@ -10,7 +10,6 @@ use std::alloc::Global;
 use std::io;
 use std::io::{Read, Write};
 use std::net::{Net, OpenStream, Shutdown, TcpStream};
-use std::time::Clock;
 
 // A peer that has connected to a port, and has written all that it writes.
 fn peer<R: Net>(rt: &R, port: u16, bytes: &[u8]) -> io::Result<R::Stream> {
@@ -61,7 +60,7 @@ fn push_reply<S: Read>(alloc: Global, peer: &mut S, out: &mut Words) -> Result<(
 }
 
 // The port at which a door listens.
-fn opened<R: Net + Clock>(door: &mut TcpDoor<R>) -> Result<u16, Stop> {
+fn opened<R: Net>(door: &mut TcpDoor<R>) -> Result<u16, Stop> {
     match (door.listen(0), door.port()) {
         (Ok(()), Some(port)) => Ok(port),
         _ => Err(Stop::Unread),
@@ -85,7 +84,7 @@ fn served_at(
 // The same, once the door is gone.
 fn served(rt: &HostRuntime, case: &Case, out: &mut Words) -> Result<Vec<TcpStream>, Stop> {
     let mut replies = Replies::given(rt.alloc(), case)?;
-    let mut door = TcpDoor::new(rt.alloc(), *rt);
+    let mut door = TcpDoor::new(*rt);
     served_at(rt, &mut door, &mut replies, case, out)
 }
 

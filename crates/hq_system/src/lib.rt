@@ -3,12 +3,9 @@
 
 mod files;
 mod interrupted;
-mod link;
-mod silent;
 mod streams;
 mod tcp;
 
 pub use files::DirFiles;
-pub use link::TcpLink;
 pub use streams::{StdSink, StdSource};
-pub use tcp::TcpDoor;
+pub use tcp::{TcpDoor, TcpLink};

@@ -133,7 +133,7 @@ fn reads(stream: &mut TcpStream, want: &[u8; 3]) -> Result<bool, Fail> {
 
 #[test]
 fn a_connection_is_answered(rt: HostRuntime) -> Result<(), Fail> {
-    let mut door = TcpDoor::new(rt.alloc(), rt);
+    let mut door = TcpDoor::new(rt);
     assert!(rt; door.listen(0).is_ok());
     let port = door.port().ok_or("no port")?;
     let mut stream = TcpStream::connect(&rt, ("127.0.0.1", port))?;
@@ -176,7 +176,7 @@ fn the_peer_of_a_closed_link_sees_its_end(rt: HostRuntime) -> Result<(), Fail> {
 
 #[test]
 fn a_door_that_does_not_listen_fails(rt: HostRuntime) -> Result<(), Fail> {
-    let mut door = TcpDoor::new(rt.alloc(), rt);
+    let mut door = TcpDoor::new(rt);
     assert!(rt; door.accept().is_err());
     assert!(rt; door.faults() == 1);
     Ok(())

@@ -8,7 +8,6 @@ connections-init g c = record {
   ran = ran_none _ _ _ (g.D.Door.accepted c.args.door.now) (g.D.Door.links c.args.door.now) (g.H.Responder.faults c.args.responder.now) (g.K.Sink.written c.args.out.now);
   same_deny = λ headers h. h;
   same_give = λ headers body reply h. h;
-  closed = λ none. none;
   door = search rules;
   out = search rules;
 }
@@ -46,7 +45,6 @@ connections-preserved g c =
           c.connections.invariant.ran more c.in-Ok.ensures.ok;
       same_deny = λ headers h. c.connections.invariant.same_deny headers (c.in_ok-end.ensures.same_deny headers h);
       same_give = λ headers body reply h. c.connections.invariant.same_give headers body reply (c.in_ok-end.ensures.same_give headers body reply h);
-      closed = λ none. c.in_ok-end.ensures.closed;
       door = search rules;
       out = search rules;
     }

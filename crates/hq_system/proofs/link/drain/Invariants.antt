@@ -1,4 +1,0 @@
-use Rattle.hq_system.proofs.link.drain.Given as goal
-
-abbrev pub decreases-pieces : goal.decreases-pieces
-decreases-pieces g l = l.left
