@@ -1,9 +1,9 @@
-ghost use Rattle.std.specs.Prelude.{◌≡◌, ◌⊎◌, ◌≤◌, None, ℕ, false, Err, IfOk, IfErr};
+ghost use Rattle.std.specs.Prelude.{◌≡◌, ◌⊎◌, ◌≤◌, None, ℕ, Err, IfOk, IfErr};
 ghost use Rattle.hq_sql_tree.specs.Tree.{SelectTree};
 ghost use Rattle.hq_sql_text.specs.Readable.{Spells};
 ghost use Rattle.hq_link.specs.Answered.{Answered, NotFitting};
 ghost use Rattle.hq_link.specs.Asked.{Asked, NotAsked, TellsFailure};
-ghost use Rattle.hq_db.specs.Parts.{steps_of, tables_in};
+ghost use Rattle.hq_db.specs.Steps.{steps_of};
 
 use crate::answer::answer;
 use hq_answer::Answer;
@@ -22,9 +22,8 @@ pub struct SqlDb<T: Tables> {
 }
 
 impl<T: Tables> SqlDb<T> {
-    /// A database that was asked nothing so far, of whose tables none is pinned. Takes no memory.
-    pub fn new(mut tables: T) -> Self
-        ensures released { (u : ℕ) → T.is_pinned (tables_in result) u ≡ false }
+    /// A database that was asked nothing so far. Takes no memory.
+    pub fn new(tables: T) -> Self
         ensures tables { ⟦<SqlDb<T> as Database>⟧.tables result ≡ T.tables tables }
         ensures database { ⟦<SqlDb<T> as Database>⟧.database result ≡ T.database tables }
         ensures faults { ⟦<SqlDb<T> as Database>⟧.faults result ≡ T.faults tables }
@@ -32,7 +31,6 @@ impl<T: Tables> SqlDb<T> {
         ensures last { ⟦<SqlDb<T> as Database>⟧.last result ≡ None }
         ensures steps { steps_of result ≡ 0 }
     {
-        tables.release();
         SqlDb {
             tables,
             asks: 0,
@@ -49,16 +47,13 @@ impl<T: Tables> SqlDb<T> {
         self.looked
     }
 
-    /// The tables, of which none is pinned. Takes no memory.
+    /// The tables, of which none is pinned after a text was answered. Takes no memory.
     pub fn into_tables(self) -> T
-        ensures released { (u : ℕ) → T.is_pinned result u ≡ false }
         ensures tables { T.tables result ≡ ⟦<SqlDb<T> as Database>⟧.tables self }
         ensures database { T.database result ≡ ⟦<SqlDb<T> as Database>⟧.database self }
         ensures faults { T.faults result ≡ ⟦<SqlDb<T> as Database>⟧.faults self }
     {
-        let mut tables = self.tables;
-        tables.release();
-        tables
+        self.tables
     }
 }
 
@@ -79,7 +74,6 @@ impl<T: Tables> Database for SqlDb<T> {
 
     fn run(&mut self, alloc: Global, text: &[u8]) -> Result<Answer, DbRefusal>
         ensures steps { steps_of self.old ≤ steps_of self.new }
-        ensures released { (u : ℕ) → T.is_pinned (tables_in self.new) u ≡ false }
 
         // What the trait says.
         ensures failed { IfErr result (λ e. TellsFailure (⟦<SqlDb<T> as Database>⟧.faults self.old) (⟦<SqlDb<T> as Database>⟧.faults self.new) e) }
@@ -91,7 +85,6 @@ impl<T: Tables> Database for SqlDb<T> {
         ensures database { ⟦<SqlDb<T> as Database>⟧.database self.new ≡ ⟦<SqlDb<T> as Database>⟧.database self.old }
         ensures later { ⟦<SqlDb<T> as Database>⟧.faults self.old ≤ ⟦<SqlDb<T> as Database>⟧.faults self.new }
     {
-        self.tables.release();
         let copy = Bytes::from_slice(alloc, text)?;
         self.asks = self.asks.saturating_add(1);
         self.last = Some(copy);

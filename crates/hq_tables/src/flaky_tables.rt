@@ -96,7 +96,7 @@ impl Tables for FlakyTables {
 
         // What the trait says.
         ensures released { (u : ℕ) → ⟦<FlakyTables as Tables>⟧.is_pinned self.new u ≡ false }
-        ensures faults { ⟦<FlakyTables as Tables>⟧.faults self.new ≡ ⟦<FlakyTables as Tables>⟧.faults self.old }
+        ensures later { ⟦<FlakyTables as Tables>⟧.faults self.old ≤ ⟦<FlakyTables as Tables>⟧.faults self.new }
         ensures tables { ⟦<FlakyTables as Tables>⟧.tables self.new ≡ ⟦<FlakyTables as Tables>⟧.tables self.old }
         ensures database { ⟦<FlakyTables as Tables>⟧.database self.new ≡ ⟦<FlakyTables as Tables>⟧.database self.old }
     {

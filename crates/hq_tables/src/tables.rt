@@ -56,10 +56,10 @@ pub trait Tables {
         requires { is_pinned self.now t ≡ true }
         ensures { result.now ≡ rows self.now t };
 
-    /// Pins nothing any more. Takes no memory, and reads nothing.
+    /// Pins nothing any more. Takes no memory.
     fn release(&mut self)
         ensures released { (u : ℕ) → is_pinned self.new u ≡ false }
-        ensures faults { faults self.new ≡ faults self.old }
+        ensures later { faults self.old ≤ faults self.new }
         ensures tables { tables self.new ≡ tables self.old }
         ensures database { database self.new ≡ database self.old };
 
