@@ -1,6 +1,4 @@
 mod deepest;
-mod live;
 mod memory;
-mod pages;
 mod store;
 mod system;
