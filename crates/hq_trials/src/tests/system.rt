@@ -6,7 +6,7 @@ use hq_outside::{Door, Files, Link, Sink, Source, read_all, write_all};
 use hq_system::{DirFiles, StdSink, StdSource, TcpDoor};
 use std::alloc::Global;
 use std::io::{Read, Write};
-use std::net::{Shutdown, TcpStream};
+use std::net::TcpStream;
 use std::test::Fail;
 use std::{fs, io};
 
@@ -140,37 +140,6 @@ fn a_connection_is_answered(rt: HostRuntime) -> Result<(), Fail> {
     stream.write_all(b"one")?;
     assert!(rt; serve(&mut door) == Some(3));
     assert!(rt; reads(&mut stream, b"one")?);
-    Ok(())
-}
-
-#[test]
-fn a_peer_that_sends_nothing_holds_nobody(rt: HostRuntime) -> Result<(), Fail> {
-    let mut door = TcpDoor::new(rt.alloc(), rt);
-    assert!(rt; door.listen(0).is_ok());
-    let port = door.port().ok_or("no port")?;
-    let mut silent = TcpStream::connect(&rt, ("127.0.0.1", port))?;
-    let mut stream = TcpStream::connect(&rt, ("127.0.0.1", port))?;
-    stream.write_all(b"two")?;
-    assert!(rt; serve(&mut door) == Some(3));
-    assert!(rt; reads(&mut stream, b"two")?);
-    silent.write_all(b"one")?;
-    assert!(rt; serve(&mut door) == Some(3));
-    assert!(rt; reads(&mut silent, b"one")?);
-    Ok(())
-}
-
-#[test]
-fn the_peer_of_a_closed_link_sees_its_end(rt: HostRuntime) -> Result<(), Fail> {
-    let mut door = TcpDoor::new(rt.alloc(), rt);
-    assert!(rt; door.listen(0).is_ok());
-    let port = door.port().ok_or("no port")?;
-    let mut stream = TcpStream::connect(&rt, ("127.0.0.1", port))?;
-    stream.write_all(b"one and more")?;
-    assert!(rt; serve(&mut door) == Some(4));
-    stream.shutdown(Shutdown::Write)?;
-    door.close(true);
-    let mut echoed = Vec::new(rt.alloc());
-    assert!(rt; stream.read_to_end(&mut echoed)? == 4);
     Ok(())
 }
 
