@@ -5,10 +5,7 @@ use Rattle.hq_ask_tree.specs.Fields.{FieldTrees, no_field, field}
 use Rattle.hq_ask_tree.specs.Request.{AskTree}
 use Rattle.hq_ask_tree.specs.Resolve.{resolve_all, resolved}
 use Rattle.hq_base.specs.Json.{JsonTree, obj, MemberTrees, member}
-use Rattle.hq_answer.specs.declared.answer.Answer.{Answer}
-use Rattle.hq_reply.specs.DataTexts.{HasData, data_text}
-use Rattle.hq_reply.specs.TableObject.{AnswersNone}
-use Rattle.hq_engine.proofs.TextsAsked.{none_there}
+use Rattle.hq_reply.specs.DataTexts.{data_text}
 use Rattle.hq_reply.specs.RootObject.{own_value, root_members, of_database, root_object}
 use Rattle.hq_request.specs.Request.{request_due}
 use Rattle.hq_request.specs.declared.refusal.RequestRefusal.{RequestRefusal}
@@ -31,6 +28,8 @@ use Rattle.hq_views.specs.Laws.{WorldsAgree}
 use Rattle.hq_engine.specs.Laws.{RepliesAgree}
 use Rattle.hq_engine.specs.Replies.{IsOverEach, due_object, reply_to, due_reply}
 use Rattle.hq_engine.specs.Asking.{asked_text, text_for}
+use Rattle.hq_faults.specs.FaultTexts.{fault_text}
+use Rattle.hq_faults.specs.declared.faults.RequestFault.{RequestFault}
 
 -- equal members have equal first values, and equal others
 first_same : (key name : List ℕ) (a b : JsonTree) (ms ns : MemberTrees) → member key a ms ≡ member name b ns → (a ≡ b) × (ms ≡ ns)
@@ -81,9 +80,6 @@ module _ (tables : List Table) (meta : MetaTree) (session : Session) (body : Lis
   each_due reply ask made over none d =
       ap (reply_to tables meta session d) made ∙ ap (λ b. Some b) (sym (over (sym (ap (text_for tables meta) made) ∙ none) d))
 
--- where no text is asked, what is due is due over each database
-pub data_over_each : (tables : List Table) (meta : MetaTree) (session : Session) (ask : AskTree) (answer : Answer) (body : List ℕ)
-    → HasData (role_schema tables meta (role_of session.role)) ask.fields answer body → AnswersNone answer ask.fields → IsOverEach tables meta session ask body
-data_over_each tables meta session ask answer body has none unasked d =
-    let of_table = of_database (schema_of tables meta) (grants_of session tables meta) d in
-    has of_table (none (none_there tables meta ask unasked) of_table)
+  -- and so is the reply of a fault
+  pub fault_due : (f : RequestFault) (reply : List ℕ) → request_due tables meta session body ≡ Err (Fault f) → reply ≡ fault_text f → (d : List (List Row)) → due_reply tables meta session d body ≡ Some reply
+  fault_due f reply made is d = ap (reply_to tables meta session d) made ∙ ap (λ b. Some b) (sym is)

@@ -131,7 +131,6 @@ impl Engine {
     }
 
     // The reply to a request of a session.
-    #[tactic(auto, using(crate::proofs::Worlds::data_over_each))]
     fn data<D: Database>(
         &self,
         alloc: Global,

@@ -1,7 +1,7 @@
 use Rattle.std.proofs.lemmas.Result.{IfOk-weaker}
 use Rattle.hq_ask_tree.specs.Request.{ask_view}
 use Rattle.hq_terms.specs.Meta.{meta_view}
-use Rattle.hq_engine.proofs.Worlds.{data_alike, each_due}
+use Rattle.hq_engine.proofs.Worlds.{data_alike}
 use Rattle.hq_engine.proofs.engine.Engine.answer.Goals as goal
 
 pub returns-in-Ok-clause-alike : goal.returns-in-Ok-clause-alike
@@ -14,10 +14,3 @@ returns-in-Ok-clause-alike g c =
     (λ reply told. data_alike tables meta session c.args.body.now reply.body (g.D.Database.database c.args.db.now) ask c.in-Ok.ensures.due c.args.self.now.catalog.valid c.args.self.now.meta_fits
     (c.replies_agree.ensures tables meta session c.args.body.now) told)
     c.data.ensures.reply
-
--- a request for which no text is asked is answered alike over each database
-pub returns-in-Ok-clause-over_each : goal.returns-in-Ok-clause-over_each
-returns-in-Ok-clause-over_each g c =
-    IfOk-weaker c.data.result _ _
-    (λ reply over. each_due c.args.self.now.catalog.tables (meta_view c.args.self.now.meta) c.args.session.now c.args.body.now reply.body (ask_view c.in-Ok.request) c.in-Ok.ensures.due over)
-    c.data.ensures.over_each

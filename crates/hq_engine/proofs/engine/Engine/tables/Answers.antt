@@ -1,7 +1,5 @@
-use Rattle.std.proofs.Common.{ap, map, sym, subst, ◌∙◌}
+use Rattle.std.proofs.Common.{refl, sym, subst, ◌∙◌}
 use Rattle.std.proofs.lemmas.Result.{IfOk-weaker}
-use Rattle.hq_answer.specs.Answers.{named_text, object}
-use Rattle.hq_answer.specs.declared.answer.Answer.TheVariants.{Object}
 use Rattle.hq_ask_tree.specs.Request.{ask_view}
 use Rattle.hq_compiled.specs.Asked.{asked_statement}
 use Rattle.hq_link.specs.Typed.{IsTyped}
@@ -42,9 +40,7 @@ returns-in-Some-clause-none g c =
     let meta = meta_view c.args.self.now.meta in
     let ask = ask_view c.args.request.now in
     let there = text_there tables meta ask c.in_ok-text.field-0 c.in-Some.text c.in_ok-text.ensures.text c.in-Some.is in
-    IfOk-weaker c.ask.result _ _ (λ answer has. something_asked tables meta ask answer there.0) c.ask.ensures.answered
+    IfOk-always c.ask.result _ (λ answer. something_asked tables meta ask answer there.0)
 
 pub returns-in-None-clause-none : goal.returns-in-None-clause-none
-returns-in-None-clause-none g c =
-    nothing_answered c.args.self.now.catalog.tables (meta_view c.args.self.now.meta) (ask_view c.args.request.now) (Object c.new.result)
-    (ap (λ ms. object (map named_text ms)) c.new.ensures.items) c.tables_are_resolved.ensures.none
+returns-in-None-clause-none g c = nothing_answered c.args.self.now.catalog.tables (meta_view c.args.self.now.meta) (ask_view c.args.request.now) _ refl c.tables_are_resolved.ensures.none
