@@ -102,10 +102,6 @@ pub fn answer_one<T: Tables, S: Source, K: Sink, E: Sink>(
     // Nothing is written at a status other than 0, 1 and 5.
     ensures silent { result ≢ 0 → result ≢ 1 → result ≢ 5 → K.written out.new ≡ K.written out.old }
 
-    // It ends neither by its words nor by a file.
-    ensures words { result ≢ 2 }
-    ensures file { result ≢ 3 }
-
     // A failure is told only where the count of that object rose.
     ensures read { result ≡ 4 → Rose (S.faults input.old) (S.faults input.new) }
     ensures write { result ≡ 5 → Rose (K.faults out.old) (K.faults out.new) }

@@ -81,9 +81,3 @@ TellsDatabase before now r = ⊤
 abbrev pub NotDatabase : Refusal → Type 0
 NotDatabase (refusal.Database before after) = ⊥
 NotDatabase r = ⊤
-
--- no fault of words or of a file: an engine and a database were there
-abbrev pub OfRequest : Refusal → Type 0
-OfRequest refusal.BadWords = ⊥
-OfRequest (refusal.File file fault) = ⊥
-OfRequest r = ⊤

@@ -2,7 +2,7 @@
 ghost use Rattle.std.specs.Prelude.{◌≡◌, ◌≢◌, ◌≤◌, ◌⊎◌, length, IsErrOf, IfSome, IfErr, Err, Some};
 ghost use Rattle.hq_outside.specs.Causes.{Rose};
 ghost use Rattle.hq_terms.specs.Meta.{meta_view};
-ghost use Rattle.hq_commands.specs.Ending.{Ends, NotDatabase, OfRequest, Silent, TellsDatabase};
+ghost use Rattle.hq_commands.specs.Ending.{Ends, NotDatabase, Silent, TellsDatabase};
 ghost use Rattle.hq_commands.specs.Answers.{Answers};
 ghost use Rattle.hq_commands.specs.Output.{done_by, query_output, request_output};
 
@@ -49,7 +49,7 @@ fn reply_over<D: Database, K: Sink>(
     ensures read { result ≢ Err Refusal.ReadFailed }
     ensures write { IsErrOf result Refusal.WriteFailed → Rose (K.faults out.old) (K.faults out.new) }
     ensures failed { IfErr result (λ e. TellsDatabase (D.faults db.old) (D.faults db.new) e) }
-    ensures of_request { IfErr result OfRequest }
+    ensures words { result ≢ Err Refusal.BadWords }
     ensures tables { D.tables db.new ≡ D.tables db.old }
     ensures database { D.database db.new ≡ D.database db.old }
     ensures out_later { K.faults out.old ≤ K.faults out.new }
@@ -77,7 +77,7 @@ pub fn reply_to<D: Database, S: Source, K: Sink>(
     ensures read { IsErrOf result Refusal.ReadFailed → Rose (S.faults input.old) (S.faults input.new) }
     ensures write { IsErrOf result Refusal.WriteFailed → Rose (K.faults out.old) (K.faults out.new) }
     ensures failed { IfErr result (λ e. TellsDatabase (D.faults db.old) (D.faults db.new) e) }
-    ensures of_request { IfErr result OfRequest }
+    ensures words { result ≢ Err Refusal.BadWords }
     ensures tables { D.tables db.new ≡ D.tables db.old }
     ensures database { D.database db.new ≡ D.database db.old }
     ensures input_later { S.faults input.old ≤ S.faults input.new }
