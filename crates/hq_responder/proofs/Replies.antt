@@ -1,5 +1,5 @@
 -- The reply that an engine gives is the due one.
-use Rattle.std.proofs.Common.{◌≡◌, ℕ, List, true, Option, Some, None, IfSome, Result, Ok, Err, subst}
+use Rattle.std.proofs.Common.{◌≡◌, ℕ, List, true, ap, cond, Option, Some, None, IfSome, Result, Ok, Err, subst}
 use Rattle.hq_ask_tree.specs.Request.{AskTree}
 use Rattle.hq_base.specs.declared.reply.Reply.{Reply}
 use Rattle.hq_terms.specs.Database.{Row}
@@ -7,6 +7,8 @@ use Rattle.hq_terms.specs.Meta.{MetaTree, meta_view}
 use Rattle.hq_terms.specs.declared.session.Session.{Session}
 use Rattle.hq_terms.specs.declared.table.Table.{Table}
 use Rattle.hq_faults.specs.FaultTexts.{fault_text}
+use Rattle.hq_compiled.specs.Asked.{asked_statement}
+use Rattle.hq_sql_tree.specs.Spelling.{select_text}
 use Rattle.hq_engine.specs.Asking.{text_for}
 use Rattle.hq_engine.specs.Replies.{reply_to, due_object}
 use Rattle.hq_reply.specs.DataTexts.{data_text}
@@ -45,7 +47,7 @@ module _ (tables : List Table) (meta : MetaTree) (session : Session) (database :
       → (text_for tables meta made ≡ None → (d : List (List Row)) → reply_to tables meta session d made ≡ Some reply.body)
       → IsReply tables meta session database made reply
   answered_is (Ok ask) reply status built fault told each =
-      (status, some_is database reply.body (λ d. data_text (due_object tables meta session d ask)) told, λ none d. is_body ask d reply.body (each none d))
+      (status, some_is database reply.body (λ d. data_text (due_object tables meta session d ask)) told, λ without d. is_body ask d reply.body (each (ap (λ b. cond b (Some (select_text (asked_statement tables meta ask))) None) without) d))
   answered_is (Err (request.Fault f)) reply status built fault told each = (status, fault)
   answered_is (Err request.Memory) reply status built fault told each = absurd cc
 
