@@ -1,14 +1,13 @@
 -- The text that is asked for a request, and what its statement gives.
-use Rattle.std.proofs.Common.{◌≡◌, ℕ, List, [], Bool, true, false, Option, Some, None, cond, refl, sym, ap, subst, ◌∙◌}
+use Rattle.std.proofs.Common.{◌≡◌, ℕ, List, Bool, true, false, Option, Some, None, cond, refl, sym, ap, subst, ◌∙◌}
 use Rattle.std.specs.Prelude.{IfSome}
-use Rattle.hq_answer.specs.Answers.{IsAnswer, answer_of, answer_view, object}
+use Rattle.hq_answer.specs.Answers.{IsAnswer, answer_of}
 use Rattle.hq_answer.specs.declared.answer.Answer.{Answer}
-use Rattle.hq_ask_tree.specs.Fields.{FieldTree, FieldTrees}
 use Rattle.hq_ask_tree.specs.Request.{AskTree}
-use Rattle.hq_base.specs.Json.{JsonTree, obj, no_member}
+use Rattle.hq_base.specs.Json.{JsonTree}
 use Rattle.hq_compiled.specs.Asked.{asked_statement}
 use Rattle.hq_reply.specs.RootObject.{has_table_field, of_database}
-use Rattle.hq_reply.specs.TableObject.{AnswersNone, IsResolved, table_object}
+use Rattle.hq_reply.specs.TableObject.{IsResolved, table_object}
 use Rattle.hq_sql_tree.specs.Spelling.{select_text}
 use Rattle.hq_terms.specs.Database.{Row, is_database}
 use Rattle.hq_terms.specs.Grants.{grants_of}
@@ -29,24 +28,6 @@ module _ (tables : List Table) (meta : MetaTree) (ask : AskTree) where
         | false ↦ λ is e. absurd cc
       ] in
       go (has_table_field ask.fields) refl (sym asked ∙ h)
-
-  -- where none is asked, no root field starts at one
-  pub none_there : statement_text tables meta ask ≡ None → has_table_field ask.fields ≡ false
-  none_there h =
-      let go : (b : Bool) → has_table_field ask.fields ≡ b → cond b (Some (select_text (asked_statement tables meta ask))) None ≡ None → has_table_field ask.fields ≡ false =
-      elim [
-        | true ↦ λ is e. absurd cc
-        | false ↦ λ is e. is
-      ] in
-      go (has_table_field ask.fields) refl h
-
-  -- the answer without a member is their object then
-  pub nothing_answered : (answer : Answer) → answer_view answer ≡ object [] → ((of_table : FieldTree → JsonTree) (fs : FieldTrees) → has_table_field fs ≡ false → table_object of_table fs ≡ obj no_member) → AnswersNone answer ask.fields
-  nothing_answered answer empty none without of_table = empty ∙ ap answer_of (sym (none of_table ask.fields without))
-
-  -- and where one is asked, one starts at a table
-  pub something_asked : (answer : Answer) → has_table_field ask.fields ≡ true → AnswersNone answer ask.fields
-  something_asked answer there without of_table = absurd cc
 
 module _ (tables : List Table) (meta : MetaTree) (session : Session) (ask : AskTree) (resolved : (d : List (List Row)) → IsResolved (schema_of tables meta) (grants_of session tables meta) d ask.fields) where
   -- the object of the root fields that start at a table, over a database

@@ -1,12 +1,12 @@
 -- Two databases that a session cannot tell apart give it the same replies.
-use Rattle.std.proofs.Common.{◌≡◌, ◌∙◌, ℕ, List, [], length, Option, true, false, Some, None, Result, Ok, Err, refl, sym, ap}
+use Rattle.std.proofs.Common.{◌≡◌, ◌∙◌, ℕ, List, [], length, Option, true, Some, None, Result, Ok, Err, refl, sym, ap}
 use Rattle.std.specs.Prelude.{unwrap_or, IfSome}
 use Rattle.hq_ask_tree.specs.Fields.{FieldTrees, no_field, field}
 use Rattle.hq_ask_tree.specs.Request.{AskTree}
 use Rattle.hq_ask_tree.specs.Resolve.{resolve_all, resolved}
 use Rattle.hq_base.specs.Json.{JsonTree, obj, MemberTrees, member}
 use Rattle.hq_reply.specs.DataTexts.{data_text}
-use Rattle.hq_reply.specs.RootObject.{own_value, root_members, of_database, root_object, has_table_field}
+use Rattle.hq_reply.specs.RootObject.{own_value, root_members, of_database, root_object}
 use Rattle.hq_request.specs.Request.{request_due}
 use Rattle.hq_request.specs.declared.refusal.RequestRefusal.{RequestRefusal}
 use Rattle.hq_request.specs.declared.refusal.RequestRefusal.TheVariants.{Fault, Memory}
@@ -26,11 +26,7 @@ use Rattle.hq_terms.specs.declared.session.Session.{Session}
 use Rattle.hq_terms.specs.declared.table.Table.{Table}
 use Rattle.hq_views.specs.Laws.{WorldsAgree}
 use Rattle.hq_engine.specs.Laws.{RepliesAgree}
-use Rattle.hq_engine.specs.Replies.{IsOverEach, due_object, reply_to, due_reply}
-use Rattle.hq_engine.specs.Asking.{asked_text, text_for}
-use Rattle.hq_engine.proofs.TextsAsked.{none_there}
-use Rattle.hq_faults.specs.FaultTexts.{fault_text}
-use Rattle.hq_faults.specs.declared.faults.RequestFault.{RequestFault}
+use Rattle.hq_engine.specs.Replies.{due_object, reply_to, due_reply}
 
 -- equal members have equal first values, and equal others
 first_same : (key name : List ℕ) (a b : JsonTree) (ms ns : MemberTrees) → member key a ms ≡ member name b ns → (a ≡ b) × (ms ≡ ns)
@@ -74,14 +70,3 @@ module _ (tables : List Table) (meta : MetaTree) (session : Session) (body : Lis
   data_alike reply None ask made catalog fit worlds told = tt
   data_alike reply (Some d) ask made catalog fit worlds told =
       λ e agree. sym (worlds d e catalog fit agree) ∙ ap (reply_to tables meta session d) made ∙ ap (λ b. Some b) (sym told)
-
-  -- a reply that is one over each database is due over each
-  pub each_due : (reply : List ℕ) (ask : AskTree) → request_due tables meta session body ≡ Ok ask → IsOverEach tables meta session ask reply
-      → asked_text tables meta session body ≡ None → (d : List (List Row)) → due_reply tables meta session d body ≡ Some reply
-  each_due reply ask made over none d =
-      let without : has_table_field ask.fields ≡ false = none_there tables meta ask (sym (ap (text_for tables meta) made) ∙ none) in
-      ap (reply_to tables meta session d) made ∙ ap (λ b. Some b) (sym (over without d))
-
-  -- and so is the reply of a fault
-  pub fault_due : (f : RequestFault) (reply : List ℕ) → request_due tables meta session body ≡ Err (Fault f) → reply ≡ fault_text f → (d : List (List Row)) → due_reply tables meta session d body ≡ Some reply
-  fault_due f reply made is d = ap (reply_to tables meta session d) made ∙ ap (λ b. Some b) (sym is)

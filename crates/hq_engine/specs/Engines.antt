@@ -1,5 +1,5 @@
 -- What an engine answers, by its catalog and its metadata.
-use Rattle.std.specs.Prelude.{◌≡◌, ℕ, List, Option, Some, None, Result}
+use Rattle.std.specs.Prelude.{ℕ, List, Option, Result}
 use Rattle.hq_ask_tree.specs.Request.{AskTree}
 use Rattle.hq_terms.specs.Database.{Row}
 use Rattle.hq_terms.specs.Grants.{grants_of}
@@ -29,10 +29,6 @@ engine_text engine session body = asked_text engine.catalog.tables (meta_view en
 -- the body of the reply that is due over a database
 abbrev pub engine_reply : Engine → Session → List (List Row) → (body : List ℕ) → Option (List ℕ)
 engine_reply engine session d body = due_reply engine.catalog.tables (meta_view engine.meta) session d body
-
--- the reply of a body for which no text is asked is due over each database
-abbrev pub IsDueOverEach : Engine → Session → (body reply : List ℕ) → Type 0
-IsDueOverEach engine session body reply = engine_text engine session body ≡ None → (d : List (List Row)) → engine_reply engine session d body ≡ Some reply
 
 -- a session cannot tell these databases apart: it sees the same cells and the same links
 abbrev pub engine_agree : Engine → Session → (d e : List (List Row)) → Type 0

@@ -1,11 +1,11 @@
 -- The reply that is due: the text of the first fault, or the object of the root fields, of which those that start at a table give
 -- what nested resolvers give over the rows and columns that the session may see. There is no SQL here.
-use Rattle.std.specs.Prelude.{◌≡◌, ℕ, List, false, Option, Some, None, Result, Ok, Err}
+use Rattle.std.specs.Prelude.{ℕ, List, Option, Some, None, Result, Ok, Err}
 use Rattle.hq_ask_tree.specs.Request.{AskTree}
 use Rattle.hq_base.specs.Json.{JsonTree}
 use Rattle.hq_faults.specs.FaultTexts.{fault_text}
 use Rattle.hq_reply.specs.DataTexts.{data_text}
-use Rattle.hq_reply.specs.RootObject.{root_object, has_table_field}
+use Rattle.hq_reply.specs.RootObject.{root_object}
 use Rattle.hq_request.specs.Request.{request_due}
 use Rattle.hq_request.specs.declared.refusal.RequestRefusal.{RequestRefusal}
 use Rattle.hq_request.specs.declared.refusal.RequestRefusal.TheVariants.{Fault, Memory}
@@ -32,7 +32,3 @@ reply_to tables meta session d (Err Memory) = None
 -- the body of the reply that is due
 abbrev pub due_reply : List Table → MetaTree → Session → List (List Row) → (body : List ℕ) → Option (List ℕ)
 due_reply tables meta session d body = reply_to tables meta session d (request_due tables meta session body)
-
--- the body of the reply to a request of which no root field starts at a table: it is the same over every database
-abbrev pub IsOverEach : List Table → MetaTree → Session → AskTree → (body : List ℕ) → Type 0
-IsOverEach tables meta session ask body = has_table_field ask.fields ≡ false → (d : List (List Row)) → body ≡ data_text (due_object tables meta session d ask)

@@ -35,7 +35,7 @@ impl Engine {
     ghost use Rattle.hq_faults.specs.FaultTexts.{fault_text, tells_fault};
     ghost use Rattle.hq_reply.specs.DataTexts.{HasData, data_text};
     ghost use Rattle.hq_reply.specs.RootObject.{of_database};
-    ghost use Rattle.hq_reply.specs.TableObject.{AnswersNone, table_object};
+    ghost use Rattle.hq_reply.specs.TableObject.{table_object};
     ghost use Rattle.hq_request.specs.Request.{is_answered};
     ghost use Rattle.hq_request.specs.declared.refusal.RequestRefusal.TheVariants as request;
     ghost use Rattle.hq_request_laws.specs.Formed.{IsOfSession};
@@ -48,9 +48,9 @@ impl Engine {
     ghost use Rattle.hq_terms.specs.Permission.{role_of};
     ghost use Rattle.hq_terms.specs.Schema.{schema_of};
     ghost use Rattle.hq_engine.specs.Asking.{Asks, statement_text};
-    ghost use Rattle.hq_engine.specs.Engines.{IsDueOverEach, engine_agree, engine_fault, engine_reply, engine_request, engine_text};
+    ghost use Rattle.hq_engine.specs.Engines.{engine_agree, engine_fault, engine_reply, engine_request, engine_text};
     ghost use Rattle.hq_engine.specs.Failures.{TellsDatabase};
-    ghost use Rattle.hq_engine.specs.Replies.{IsOverEach, due_object};
+    ghost use Rattle.hq_engine.specs.Replies.{due_object};
     ghost use Rattle.hq_engine.specs.Statements.{HasStatement};
     ghost use Rattle.hq_engine.specs.Stating.{States};
 
@@ -97,7 +97,6 @@ impl Engine {
         requires catalog { D.tables db.old ≡ self.now.catalog.tables }
         ensures value { let tables = self.now.catalog.tables in let meta = meta_view self.now.meta in IfOk result (λ answer. IfSome (D.database db.old) (λ d.
             IsAnswer answer (table_object (of_database (schema_of tables meta) (grants_of session.now tables meta) d) (ask_view request.now).fields))) }
-        ensures none { IfOk result (λ answer. AnswersNone answer (ask_view request.now).fields) }
         ensures asks { Asks (statement_text self.now.catalog.tables (meta_view self.now.meta) (ask_view request.now))
             (record { asks = D.asks db.old; last = D.last db.old }) (record { asks = D.asks db.new; last = D.last db.new }) result }
         ensures statement { OnOk result (HasStatement self.now.catalog.tables (meta_view self.now.meta) session.now (Ok (ask_view request.now))) }
@@ -143,7 +142,6 @@ impl Engine {
         ensures status { IfOk result (λ reply. reply.status ≡ 200) }
         ensures reply { IfOk result (λ reply. IfSome (D.database db.old) (λ d.
             reply.body ≡ data_text (due_object self.now.catalog.tables (meta_view self.now.meta) session.now d (ask_view request.now)))) }
-        ensures over_each { IfOk result (λ reply. IsOverEach self.now.catalog.tables (meta_view self.now.meta) session.now (ask_view request.now) reply.body) }
         ensures kind { IfOk result (λ reply. tells_fault reply.body ≡ false) }
         ensures asks { Asks (statement_text self.now.catalog.tables (meta_view self.now.meta) (ask_view request.now))
             (record { asks = D.asks db.old; last = D.last db.old }) (record { asks = D.asks db.new; last = D.last db.new }) result }
@@ -169,10 +167,9 @@ impl Engine {
         requires limit { length body.now ≤ 1048576 }
         requires catalog { D.tables db.old ≡ self.now.catalog.tables }
 
-        // A reply is the due one, where the database is told; where the request asks nothing of it, also where it is not.
+        // A reply is the due one, where the database is told.
         ensures status { IfOk result (λ reply. reply.status ≡ 200) }
         ensures reply { IfOk result (λ reply. IfSome (D.database db.old) (λ d. engine_reply self.now session.now d body.now ≡ Some reply.body)) }
-        ensures over_each { IfOk result (λ reply. IsDueOverEach self.now session.now body.now reply.body) }
 
         // A reply tells a fault exactly where the request has one, and then the first.
         ensures kind { IfOk result (λ reply. tells_fault reply.body ≡ is_some (engine_fault self.now session.now body.now)) }

@@ -1,5 +1,5 @@
 -- The part of the object of root fields that starts at tables: what the one statement gives.
-use Rattle.std.specs.Prelude.{◌≡◌, List, false, cond}
+use Rattle.std.specs.Prelude.{◌≡◌, List, cond}
 use Rattle.hq_ask_tree.specs.Fields.{FieldTrees, no_field, field, FieldTree}
 use Rattle.hq_ask_tree.specs.Resolve.{resolved}
 use Rattle.hq_ask_tree.specs.Root.{is_table_field, table_fields}
@@ -7,9 +7,7 @@ use Rattle.hq_base.specs.Json.{JsonTree, obj, MemberTrees, no_member, member}
 use Rattle.hq_terms.specs.Database.{Row}
 use Rattle.hq_terms.specs.Grants.{Grants}
 use Rattle.hq_terms.specs.Schema.{Schema}
-use Rattle.hq_answer.specs.Answers.{IsAnswer}
-use Rattle.hq_answer.specs.declared.answer.Answer.{Answer}
-use Rattle.hq_reply.specs.RootObject.{of_database, has_table_field}
+use Rattle.hq_reply.specs.RootObject.{of_database}
 
 -- the members of the root fields that start at a table, in their order
 abbrev pub table_members : (of_table : FieldTree → JsonTree) → FieldTrees → MemberTrees
@@ -22,7 +20,3 @@ table_object of_table fs = obj (table_members of_table fs)
 -- it is what nested resolvers give for these fields alone
 abbrev pub IsResolved : Schema → Grants → List (List Row) → FieldTrees → Type 0
 IsResolved s g d fs = resolved (table_fields fs) s g d ≡ table_object (of_database s g d) fs
-
--- where no root field starts at a table, it is their object, whatever gives those that do
-abbrev pub AnswersNone : Answer → FieldTrees → Type 0
-AnswersNone answer fs = has_table_field fs ≡ false → (of_table : FieldTree → JsonTree) → IsAnswer answer (table_object of_table fs)

@@ -1,5 +1,5 @@
 -- The reply that an engine gives is the due one.
-use Rattle.std.proofs.Common.{◌≡◌, ℕ, List, true, ap, cond, Option, Some, None, IfSome, Result, Ok, Err, subst}
+use Rattle.std.proofs.Common.{◌≡◌, ℕ, List, true, Option, Some, None, IfSome, Result, Ok, Err, subst}
 use Rattle.hq_ask_tree.specs.Request.{AskTree}
 use Rattle.hq_base.specs.declared.reply.Reply.{Reply}
 use Rattle.hq_terms.specs.Database.{Row}
@@ -7,15 +7,12 @@ use Rattle.hq_terms.specs.Meta.{MetaTree, meta_view}
 use Rattle.hq_terms.specs.declared.session.Session.{Session}
 use Rattle.hq_terms.specs.declared.table.Table.{Table}
 use Rattle.hq_faults.specs.FaultTexts.{fault_text}
-use Rattle.hq_compiled.specs.Asked.{asked_statement}
-use Rattle.hq_sql_tree.specs.Spelling.{select_text}
-use Rattle.hq_engine.specs.Asking.{text_for}
 use Rattle.hq_engine.specs.Replies.{reply_to, due_object}
 use Rattle.hq_reply.specs.DataTexts.{data_text}
 use Rattle.hq_request.specs.Request.{fault_in, is_answered}
 use Rattle.hq_request.specs.declared.refusal.RequestRefusal.{RequestRefusal}
 use Rattle.hq_request.specs.declared.refusal.RequestRefusal.TheVariants as request
-use Rattle.hq_engine.specs.Engines.{IsDueOverEach, engine_agree, engine_fault, engine_reply, engine_request}
+use Rattle.hq_engine.specs.Engines.{engine_agree, engine_fault, engine_reply, engine_request}
 use Rattle.hq_engine.specs.declared.engine.Engine.{Engine}
 use Rattle.hq_http.specs.Connections.{IfBody}
 use Rattle.hq_http.specs.declared.responder.Answer.{Answer}
@@ -38,31 +35,26 @@ some_weaker None P Q h told = tt
 some_weaker (Some d) P Q h told = h d told
 
 module _ (tables : List Table) (meta : MetaTree) (session : Session) (database : Option (List (List Row))) where
-  is_body : (ask : AskTree) (d : List (List Row)) (body : List ℕ) → Some (data_text (due_object tables meta session d ask)) ≡ Some body → body ≡ data_text (due_object tables meta session d ask)
-  is_body ask d body h = cc
-
   -- what is told of a reply with data or a fault
   pub answered_is : (made : Result AskTree RequestRefusal) (reply : Reply) → reply.status ≡ 200 → is_answered made ≡ true
       → IfSome (fault_in made) (λ f. reply.body ≡ fault_text f) → IfSome database (λ d. reply_to tables meta session d made ≡ Some reply.body)
-      → (text_for tables meta made ≡ None → (d : List (List Row)) → reply_to tables meta session d made ≡ Some reply.body)
       → IsReply tables meta session database made reply
-  answered_is (Ok ask) reply status built fault told each =
-      (status, some_is database reply.body (λ d. data_text (due_object tables meta session d ask)) told, λ without d. is_body ask d reply.body (each (ap (λ b. cond b (Some (select_text (asked_statement tables meta ask))) None) without) d))
-  answered_is (Err (request.Fault f)) reply status built fault told each = (status, fault)
-  answered_is (Err request.Memory) reply status built fault told each = absurd cc
+  answered_is (Ok ask) reply status built fault told = (status, some_is database reply.body (λ d. data_text (due_object tables meta session d ask)) told)
+  answered_is (Err (request.Fault f)) reply status built fault told = (status, fault)
+  answered_is (Err request.Memory) reply status built fault told = absurd cc
 
 module _ (engine : Engine) (session : Session) (database : Option (List (List Row))) (body : List ℕ) (reply : Reply) (status : reply.status ≡ 200) (built : is_answered (engine_request engine session body) ≡ true)
-    (fault : IfSome (engine_fault engine session body) (λ f. reply.body ≡ fault_text f)) (each : IsDueOverEach engine session body reply.body) where
+    (fault : IfSome (engine_fault engine session body) (λ f. reply.body ≡ fault_text f)) where
   -- the same over another database
   answered_over : (d : List (List Row)) → engine_reply engine session d body ≡ Some reply.body → is_due engine.catalog.tables (meta_view engine.meta) session (Some d) body reply
-  answered_over d told = answered_is engine.catalog.tables (meta_view engine.meta) session (Some d) (engine_request engine session body) reply status built fault told each
+  answered_over d told = answered_is engine.catalog.tables (meta_view engine.meta) session (Some d) (engine_request engine session body) reply status built fault told
 
   -- the same by an engine
   pub answered : IfSome database (λ d. engine_reply engine session d body ≡ Some reply.body)
       → IfSome database (λ d. (e : List (List Row)) → engine_agree engine session d e → engine_reply engine session e body ≡ Some reply.body) → is_due_of engine session database body reply
   answered told alike =
       record {
-        due = answered_is engine.catalog.tables (meta_view engine.meta) session database (engine_request engine session body) reply status built fault told each;
+        due = answered_is engine.catalog.tables (meta_view engine.meta) session database (engine_request engine session body) reply status built fault told;
         alike = some_weaker database _ _ (λ d over e agree. answered_over e (over e agree)) alike;
       }
 

@@ -14,7 +14,7 @@ use Rattle.hq_terms.specs.View.{Agree}
 use Rattle.hq_terms.specs.declared.session.Session.{Session}
 use Rattle.hq_terms.specs.declared.table.Table.{Table}
 use Rattle.hq_faults.specs.FaultTexts.{fault_text}
-use Rattle.hq_engine.specs.Replies.{IsOverEach, due_object}
+use Rattle.hq_engine.specs.Replies.{due_object}
 use Rattle.hq_reply.specs.DataTexts.{data_text}
 use Rattle.hq_request.specs.Request.{request_due}
 use Rattle.hq_engine.specs.declared.engine.Engine.{Engine}
@@ -31,10 +31,9 @@ use Rattle.hq_responder.specs.declared.responder.EngineResponder.{EngineResponde
 -- ---- the reply that is due
 
 module _ (tables : List Table) (meta : MetaTree) (session : Session) (database : Option (List (List Row))) where
-  -- the reply to what a body makes: the data of a request, where the database is told or no root field starts at a table, or the
-  -- first fault
+  -- the reply to what a body makes: the data of a request, where the database is told, or the first fault
   abbrev pub IsReply : Result AskTree RequestRefusal → Reply → Type 0
-  IsReply (Ok ask) reply = (reply.status ≡ 200) × IfSome database (λ d. reply.body ≡ data_text (due_object tables meta session d ask)) × IsOverEach tables meta session ask reply.body
+  IsReply (Ok ask) reply = (reply.status ≡ 200) × IfSome database (λ d. reply.body ≡ data_text (due_object tables meta session d ask))
   IsReply (Err (Fault f)) reply = (reply.status ≡ 200) × (reply.body ≡ fault_text f)
   IsReply (Err Memory) reply = ⊥
 

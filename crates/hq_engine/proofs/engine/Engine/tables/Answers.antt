@@ -1,4 +1,4 @@
-use Rattle.std.proofs.Common.{refl, sym, subst, ◌∙◌}
+use Rattle.std.proofs.Common.{sym, subst, ◌∙◌}
 use Rattle.std.proofs.lemmas.Result.{IfOk-weaker}
 use Rattle.hq_ask_tree.specs.Request.{ask_view}
 use Rattle.hq_compiled.specs.Asked.{asked_statement}
@@ -6,7 +6,7 @@ use Rattle.hq_link.specs.Typed.{IsTyped}
 use Rattle.hq_terms.specs.Grants.{grants_of}
 use Rattle.hq_terms.specs.Meta.{meta_view}
 use Rattle.hq_terms.specs.Schema.{schema_of}
-use Rattle.hq_engine.proofs.TextsAsked.{text_there, something_asked, nothing_answered, gives_over}
+use Rattle.hq_engine.proofs.TextsAsked.{text_there, gives_over}
 use Rattle.hq_engine.proofs.engine.Engine.tables.Goals as goal
 
 -- the text is that of the compiled statement, which fits the catalog
@@ -32,15 +32,3 @@ returns-in-Some-clause-value g c =
     gives_over tables meta session ask (λ d. c.tables_are_resolved.ensures.values (schema_of tables meta) (grants_of session tables meta) d ask.fields) (g.D.Database.tables c.args.db.now) c.as_slice.result.now
     (g.D.Database.database c.args.db.now) answer c.requires.catalog (c.as_slice.ensures ∙ there.1) is (g.met.D.Database.database_fits c.args.db.now) has)
     c.ask.ensures.answered
-
--- a text is asked only where a root field starts at a table
-pub returns-in-Some-clause-none : goal.returns-in-Some-clause-none
-returns-in-Some-clause-none g c =
-    let tables = c.args.self.now.catalog.tables in
-    let meta = meta_view c.args.self.now.meta in
-    let ask = ask_view c.args.request.now in
-    let there = text_there tables meta ask c.in_ok-text.field-0 c.in-Some.text c.in_ok-text.ensures.text c.in-Some.is in
-    IfOk-always c.ask.result _ (λ answer. something_asked tables meta ask answer there.0)
-
-pub returns-in-None-clause-none : goal.returns-in-None-clause-none
-returns-in-None-clause-none g c = nothing_answered c.args.self.now.catalog.tables (meta_view c.args.self.now.meta) (ask_view c.args.request.now) _ refl c.tables_are_resolved.ensures.none
