@@ -1,5 +1,5 @@
 -- The links of a door, one of which was served.
-use Rattle.std.proofs.Common.{◌≡◌, ◌≤◌, ◌<◌, ◌+◌, ◌-◌, ◌^◌, ◌++◌, ℕ, zero, suc, List, [], ◌∷◌, length, take, drop, refl, sym, ap, ◌∙◌, subst, arith}
+use Rattle.std.proofs.Common.{◌≡◌, ◌≤◌, ◌<◌, ◌-◌, ◌^◌, ◌++◌, ℕ, zero, suc, List, [], ◌∷◌, length, refl, sym, ap, ◌∙◌, subst, arith}
 use Rattle.std.specs.Prelude.{Option, Some, None, IfSome, MatchOption, slice_get, slice_set}
 use Rattle.hq_base.specs.declared.reply.Reply.{Reply}
 use Rattle.hq_session.specs.declared.header.Header.{Header}
@@ -7,7 +7,7 @@ use Rattle.hq_outside.specs.Causes.{one_more}
 use Rattle.hq_outside.specs.Links.{IsNext, with_present}
 use Rattle.hq_http.specs.declared.end.ConnEnd.{ConnEnd}
 use Rattle.hq_http.proofs.Weaker.{connects_weaker}
-use Rattle.hq_serve.specs.Serving.{Told, ServedLink, ServesNext, EachServed, ServedBehind}
+use Rattle.hq_serve.specs.Serving.{Told, ServedLink, ServesNext, EachServed}
 
 -- a write past the end changes nothing
 set_past : {L : Type 0} (xs : List L) (i : ℕ) (x : L) → slice_get xs i ≡ None → slice_set xs i x ≡ xs
@@ -83,60 +83,17 @@ each_more {L} deny give t f f1 f2 (o ∷ os) (n ∷ ns) news' (x ∷ es) e (g, k
     subst (λ (w : List L). EachServed deny give t f f2 (o ∷ os) w (x ∷ (es ++ e ∷ []))) (sym b.all)
     (g, k, le, one, each_more deny give t k f1 f2 os ns b.rest es e others later b.served)
 
--- ---- behind links that were accepted before
-
-drop_none : {L : Type 0} (xs : List L) → drop 0 xs ≡ xs
-drop_none [] = refl
-drop_none (x ∷ xs) = refl
-
-drop_set : {L : Type 0} (a k : ℕ) (xs : List L) (x : L) → drop a (slice_set xs (a + k) x) ≡ slice_set (drop a xs) k x
-drop_set zero k xs x = let s : 0 + k ≡ k = omega arith in rw s (drop_none (slice_set xs k x) ∙ ap (λ w. slice_set w k x) (sym (drop_none xs)))
-drop_set (suc a) k [] x = refl
-drop_set (suc a) k (y ∷ ys) x = let s : suc a + k ≡ suc (a + k) = omega arith in rw s (drop_set a k ys x)
-
-take_set : {L : Type 0} (a k : ℕ) (xs : List L) (x : L) → take a (slice_set xs (a + k) x) ≡ take a xs
-take_set zero k xs x = refl
-take_set (suc a) k [] x = refl
-take_set (suc a) k (y ∷ ys) x = let s : suc a + k ≡ suc (a + k) = omega arith in rw s (ap (λ w. y ∷ w) (take_set a k ys x))
-
-get_behind : {L : Type 0} (a k : ℕ) (xs : List L) → slice_get xs (a + k) ≡ slice_get (drop a xs) k
-get_behind zero k xs = let s : 0 + k ≡ k = omega arith in rw s (ap (λ w. slice_get w k) (sym (drop_none xs)))
-get_behind (suc a) k [] = refl
-get_behind (suc a) k (y ∷ ys) = let s : suc a + k ≡ suc (a + k) = omega arith in rw s (get_behind a k ys)
-
--- the link at a place behind a was served, and those before are as they were
-pub record ServingBehind {L : Type 0} (deny : List Header → Type 0) (give : List Header → List ℕ → Reply → Type 0) (t : Told L) (a f f' : ℕ) (olds news : List L) (at : ℕ) (e : ConnEnd) : Type 0 where
-  pub kept : take a news ≡ take a olds
-  pub served : Serving deny give t f f' (drop a olds) (drop a news) at e
-
-serving_behind : {L : Type 0} (deny : List Header → Type 0) (give : List Header → List ℕ → Reply → Type 0) (t : Told L) (a f f' : ℕ) (olds news : List L) (at : ℕ) (e : ConnEnd)
-    → Serving deny give t f f' olds news (a + at) e → ServingBehind deny give t a f f' olds news at e
-serving_behind {L} deny give t a f f' olds news at e s =
-    let go : (q : Option L) → q ≡ slice_get (drop a olds) at → MatchOption q (news ≡ olds) (λ old. (new : L) × ServedLink deny give t f f' old new e × (news ≡ slice_set olds (a + at) new))
-    → ServingBehind deny give t a f f' olds news at e =
-    elim [
-      | None ↦ λ g h. record { kept = ap (take a) h; served = subst (λ (o : Option L). MatchOption o (drop a news ≡ drop a olds) (λ old. (new : L) × ServedLink deny give t f f' old new e × (drop a news ≡ slice_set (drop a olds) at new))) g (ap (drop a) h) }
-      | Some x ↦ λ g h. record {
-        kept = ap (take a) h.2 ∙ take_set a at olds h.0;
-        served = subst (λ (o : Option L). MatchOption o (drop a news ≡ drop a olds) (λ old. (new : L) × ServedLink deny give t f f' old new e × (drop a news ≡ slice_set (drop a olds) at new))) g
-            (h.0, h.1, ap (drop a) h.2 ∙ drop_set a at olds h.0);
-      }
-    ] in
-    go (slice_get (drop a olds) at) refl
-    (subst (λ (o : Option L). MatchOption o (news ≡ olds) (λ old. (new : L) × ServedLink deny give t f f' old new e × (news ≡ slice_set olds (a + at) new))) (get_behind a at olds) s)
-
 -- the same with a responder that may do less by now
-pub each_more_told : {L : Type 0} (d d' : List Header → Type 0) (v v' : List Header → List ℕ → Reply → Type 0) (t : Told L) (a f f1 f2 : ℕ) (olds news : List L) (links : Option (List L)) (es : List ConnEnd) (e : ConnEnd)
+pub each_more_told : {L : Type 0} (d d' : List Header → Type 0) (v v' : List Header → List ℕ → Reply → Type 0) (t : Told L) (f f1 f2 : ℕ) (olds news : List L) (links : Option (List L)) (es : List ConnEnd) (e : ConnEnd)
     → ((fs : List Header) → d fs → d' fs) → ((fs : List Header) (b : List ℕ) (r : Reply) → v fs b r → v' fs b r)
-    → ServedBehind d' v' t a f f1 olds news es → f1 ≤ f2 → ServesNext d v t f1 f2 (Some news) links (a + length es) e
-    → IfSome links (λ news'. ServedBehind d' v' t a f f2 olds news' (es ++ e ∷ []))
-each_more_told {L} d d' v v' t a f f1 f2 olds news None es e p q h later s = tt
-each_more_told {L} d d' v v' t a f f1 f2 olds news (Some news') es e p q h later s =
-    let go : (o : Option L) → MatchOption o (Some news' ≡ Some news) (λ old. (new : L) × ServedLink d v t f1 f2 old new e × (Some news' ≡ Some (slice_set news (a + length es) new)))
-    → MatchOption o (news' ≡ news) (λ old. (new : L) × ServedLink d' v' t f1 f2 old new e × (news' ≡ slice_set news (a + length es) new)) =
+    → EachServed d' v' t f f1 olds news es → f1 ≤ f2 → ServesNext d v t f1 f2 (Some news) links (length es) e
+    → IfSome links (λ news'. EachServed d' v' t f f2 olds news' (es ++ e ∷ []))
+each_more_told {L} d d' v v' t f f1 f2 olds news None es e p q h later s = tt
+each_more_told {L} d d' v v' t f f1 f2 olds news (Some news') es e p q h later s =
+    let go : (o : Option L) → MatchOption o (Some news' ≡ Some news) (λ old. (new : L) × ServedLink d v t f1 f2 old new e × (Some news' ≡ Some (slice_set news (length es) new)))
+    → MatchOption o (news' ≡ news) (λ old. (new : L) × ServedLink d' v' t f1 f2 old new e × (news' ≡ slice_set news (length es) new)) =
     elim [
       | None ↦ λ k. cc
-      | Some old ↦ λ k. let same : Some news' ≡ Some (slice_set news (a + length es) k.0) = k.2 in (k.0, served_weaker d d' v v' t f1 f2 old k.0 e p q k.1, cc)
+      | Some old ↦ λ k. let same : Some news' ≡ Some (slice_set news (length es) k.0) = k.2 in (k.0, served_weaker d d' v v' t f1 f2 old k.0 e p q k.1, cc)
     ] in
-    let one = serving_behind d' v' t a f1 f2 news news' (length es) e (go (slice_get news (a + length es)) s) in
-    (one.kept ∙ h.0, each_more d' v' t f f1 f2 (drop a olds) (drop a news) (drop a news') es e h.1 later one.served)
+    each_more d' v' t f f1 f2 olds news news' es e h later (go (slice_get news (length es)) s)

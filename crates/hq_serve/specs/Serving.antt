@@ -1,5 +1,5 @@
 -- Connections that are served one after the other.
-use Rattle.std.specs.Prelude.{◌≡◌, ℕ, ◌≤◌, ◌<◌, ◌+◌, ◌^◌, List, [], ◌∷◌, length, take, drop, slice_get, slice_set, IfSome, MatchOption, OnOk, Result}
+use Rattle.std.specs.Prelude.{◌≡◌, ℕ, ◌≤◌, List, [], ◌∷◌, length, take, slice_get, slice_set, IfSome, MatchOption, OnOk, Result}
 use Rattle.std.specs.declared.option.Option.{Option}
 use Rattle.std.specs.declared.option.Option.TheVariants.{None, Some}
 use Rattle.std.specs.declared.result.Result.TheVariants.{Ok, Err}
@@ -38,15 +38,6 @@ EachServed deny give t f f' [] (n ∷ ns) (e ∷ es) = ⊥
 EachServed deny give t f f' (o ∷ os) [] (e ∷ es) = ⊥
 EachServed deny give t f f' (o ∷ os) (n ∷ ns) (e ∷ es) = (g : ℕ) × (h : ℕ) × (f ≤ g) × ServedLink deny give t g h o n e × EachServed deny give t h f' os ns es
 
--- behind those that were accepted before, which are as they were, each told link was served in its turn
-abbrev pub ServedBehind : {L : Type 0} → (List Header → Type 0) → (List Header → List ℕ → Reply → Type 0) → Told L → (accepted : ℕ) → (f f' : ℕ) → (olds news : List L) → List ConnEnd → Type 0
-ServedBehind deny give t accepted f f' olds news ends = (take accepted news ≡ take accepted olds) × EachServed deny give t f f' (drop accepted olds) (drop accepted news) ends
-
--- the same where the door tells its links; a count of accepted links that fits its 64 bits rose by one for each end
-abbrev pub AcceptsEach : {L : Type 0} → (List Header → Type 0) → (List Header → List ℕ → Reply → Type 0) → Told L → (accepted accepted' : ℕ) → (links links' : Option (List L)) → (f f' : ℕ) → List ConnEnd → Type 0
-AcceptsEach deny give t accepted accepted' links links' f f' ends =
-    accepted + length ends < 2 ^ 64 → (accepted' ≡ accepted + length ends) × IfSome links (λ olds. IfSome links' (λ news. ServedBehind deny give t accepted f f' olds news ends))
-
 -- the link at this place was served, and all others are as they were
 abbrev pub ServesNext : {L : Type 0} → (List Header → Type 0) → (List Header → List ℕ → Reply → Type 0) → Told L → (f f' : ℕ) → (olds news : Option (List L)) → (at : ℕ) → ConnEnd → Type 0
 ServesNext deny give t f f' None news at e = news ≡ None
@@ -67,15 +58,15 @@ LinesBy old new ends (Err refusal.DoorFailed) = Appends old new (lines_from 1 en
 LinesBy old new ends (Err refusal.WriteFailed) = AppendsPrefix old new (lines_from 1 ends)
 LinesBy old new ends (Err refusal.Memory) = (n : ℕ) × Appends old new (lines_from 1 (take n ends))
 
--- so many connections were to be served, and these ended. The door accepted one more for each end, and where it tells its
--- links, each told link was served in its turn.
+-- so many connections were to be served, and these ended. Where the door had accepted none, it accepted one for each end,
+-- and where it tells its links, each told link was served in its turn.
 pub record Serves {L : Type 0} (deny : List Header → Type 0) (give : List Header → List ℕ → Reply → Type 0) (t : Told L) (connections : ℕ) (accepted accepted' : ℕ) (links links' : Option (List L)) (f f' : ℕ) (written written' : Option (List ℕ)) (result : Result (Unit {0}) ServeRefusal) : Type 0 where
   pub ends : List ConnEnd
   pub few : length ends ≤ connections
   pub all : OnOk result (length ends ≡ connections)
   pub lines : LinesBy written written' ends result
   pub later : f ≤ f'
-  pub told : AcceptsEach deny give t accepted accepted' links links' f f' ends
+  pub told : accepted ≡ 0 → (accepted' ≡ length ends) × IfSome links (λ olds. IfSome links' (λ news. EachServed deny give t f f' olds news ends))
 
 -- the first n connections were served, and their lines were written
 pub record RanOn {L : Type 0} (deny : List Header → Type 0) (give : List Header → List ℕ → Reply → Type 0) (t : Told L) (n : ℕ) (accepted accepted' : ℕ) (links links' : Option (List L)) (f f' : ℕ) (written written' : Option (List ℕ)) : Type 0 where
@@ -83,4 +74,4 @@ pub record RanOn {L : Type 0} (deny : List Header → Type 0) (give : List Heade
   pub count : length ends ≡ n
   pub lines : Appends written written' (lines_from 1 ends)
   pub later : f ≤ f'
-  pub told : AcceptsEach deny give t accepted accepted' links links' f f' ends
+  pub told : accepted ≡ 0 → (accepted' ≡ n) × IfSome links (λ olds. IfSome links' (λ news. EachServed deny give t f f' olds news ends))

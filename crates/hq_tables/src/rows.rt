@@ -1,6 +1,6 @@
-ghost use Rattle.std.specs.Prelude.{◌≡◌, ◌++◌, ◌<◌, ◌^◌, ℕ, [], true, flat_map, length, IfOk, OnOk, option_copied, slice_get, slice_index_or};
+ghost use Rattle.std.specs.Prelude.{◌≡◌, ◌∷◌, ◌++◌, ◌<◌, ◌^◌, ℕ, [], true, flat_map, length, IfOk, IfSome, OnOk, option_copied, slice_get, slice_index_or};
 ghost use Rattle.hq_index.specs.Grids.{rows_in};
-ghost use Rattle.hq_index.specs.Indexes.{IsOver};
+ghost use Rattle.hq_index.specs.Indexes.{IsOver, columns_of};
 ghost use Rattle.hq_index.specs.declared.index.Index.{Index};
 ghost use Rattle.hq_terms.specs.Database.{are_rows};
 
@@ -87,6 +87,19 @@ fn indexes_over(
     Ok(indexes)
 }
 
+// Whether two lists of columns are the same, in their order.
+fn are_same(left: &[ColId], right: &[ColId]) -> bool
+    ensures { result ≡ true → left.now ≡ right.now }
+{
+    match left.split_first() {
+        None => right.is_empty(),
+        Some((column, left)) => match right.split_first() {
+            None => false,
+            Some((other, right)) => column.at() == other.at() && are_same(left, right),
+        },
+    }
+}
+
 impl Rows {
     // The rows of a grid, with this index over the primary key and those over the foreign keys.
     pub(crate) fn over(
@@ -152,5 +165,18 @@ impl Rows {
         ensures { (i : ℕ) (d : Index) → i < length result.now → IsOver self.now (slice_index_or result.now i d) }
     {
         &self.indexes
+    }
+
+    /// The index over these columns in this order, where there is one. Takes no memory.
+    pub fn index(&self, columns: &ColList) -> Option<&Index>
+        ensures over { IfSome result (λ index. IsOver self.now index.now) }
+        ensures columns { IfSome result (λ index. columns_of index.now ≡ columns.now) }
+    {
+        for index in &self.indexes {
+            if are_same(index.columns(), columns.as_slice()) {
+                return Some(index);
+            }
+        }
+        None
     }
 }

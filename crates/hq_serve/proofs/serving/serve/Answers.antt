@@ -1,4 +1,4 @@
-use Rattle.std.proofs.Common.{rules}
+use Rattle.std.proofs.Common.{rules, arith, ◌<◌, ◌^◌}
 use Rattle.hq_serve.proofs.Runs.{ran_none, one_more_served, ran_more, serves_unwritten}
 use Rattle.hq_serve.proofs.serving.serve.Goals as goal
 
@@ -14,13 +14,14 @@ connections-init g c = record {
 
 pub returns-in-Err-clause-serves : goal.returns-in-Err-clause-serves
 returns-in-Err-clause-serves g c =
+    let small : c.connections.served < 2 ^ 32 = omega (arith, c.connections-test.true, c.ranges.connections.fits) in
     let more = one_more_served (g.H.Responder.may_deny c.args.responder.now) (g.H.Responder.may_deny c.connections.responder) (g.H.Responder.may_give c.args.responder.now) (g.H.Responder.may_give c.connections.responder)
     (record { left = g.D.Link.Link.left; written = g.D.Link.Link.written; read_faults = g.D.Link.Link.read_faults; write_faults = g.D.Link.Link.write_faults })
     c.connections.served (g.D.Door.accepted c.args.door.now) (g.D.Door.accepted c.connections.door) (g.D.Door.accepted c.serve_next.new.door)
     (g.D.Door.links c.args.door.now) (g.D.Door.links c.connections.door) (g.D.Door.links c.serve_next.new.door)
     (g.H.Responder.faults c.args.responder.now) (g.H.Responder.faults c.connections.responder) (g.H.Responder.faults c.serve_next.new.responder)
     (g.K.Sink.written c.args.out.now) (g.K.Sink.written c.connections.out) c.in_ok-end.end
-    c.connections.invariant.ran c.connections.invariant.same_deny c.connections.invariant.same_give c.in_ok-end.ensures.later c.in_ok-end.ensures.serves c.in_ok-end.ensures.accepted in
+    c.connections.invariant.ran small c.connections.invariant.same_deny c.connections.invariant.same_give c.in_ok-end.ensures.later c.in_ok-end.ensures.serves c.in_ok-end.ensures.accepted in
     serves_unwritten _ _ _ c.connections.served c.args.connections (g.D.Door.accepted c.args.door.now) (g.D.Door.accepted c.connections.door) (g.D.Door.accepted c.serve_next.new.door)
     (g.D.Door.links c.args.door.now) (g.D.Door.links c.connections.door) (g.D.Door.links c.serve_next.new.door)
     (g.H.Responder.faults c.args.responder.now) (g.H.Responder.faults c.connections.responder) (g.H.Responder.faults c.serve_next.new.responder)
@@ -29,13 +30,14 @@ returns-in-Err-clause-serves g c =
 
 pub connections-preserved : goal.connections-preserved
 connections-preserved g c =
+    let small : c.connections.served < 2 ^ 32 = omega (arith, c.connections-test.true, c.ranges.connections.fits) in
     let more = one_more_served (g.H.Responder.may_deny c.args.responder.now) (g.H.Responder.may_deny c.connections.responder) (g.H.Responder.may_give c.args.responder.now) (g.H.Responder.may_give c.connections.responder)
     (record { left = g.D.Link.Link.left; written = g.D.Link.Link.written; read_faults = g.D.Link.Link.read_faults; write_faults = g.D.Link.Link.write_faults })
     c.connections.served (g.D.Door.accepted c.args.door.now) (g.D.Door.accepted c.connections.door) (g.D.Door.accepted c.serve_next.new.door)
     (g.D.Door.links c.args.door.now) (g.D.Door.links c.connections.door) (g.D.Door.links c.serve_next.new.door)
     (g.H.Responder.faults c.args.responder.now) (g.H.Responder.faults c.connections.responder) (g.H.Responder.faults c.serve_next.new.responder)
     (g.K.Sink.written c.args.out.now) (g.K.Sink.written c.connections.out) c.in_ok-end.end
-    c.connections.invariant.ran c.connections.invariant.same_deny c.connections.invariant.same_give c.in_ok-end.ensures.later c.in_ok-end.ensures.serves c.in_ok-end.ensures.accepted in
+    c.connections.invariant.ran small c.connections.invariant.same_deny c.connections.invariant.same_give c.in_ok-end.ensures.later c.in_ok-end.ensures.serves c.in_ok-end.ensures.accepted in
     record {
       ready = search rules;
       ran = ran_more _ _ _ c.connections.served (g.D.Door.accepted c.args.door.now) (g.D.Door.accepted c.connections.door) (g.D.Door.accepted c.serve_next.new.door)
