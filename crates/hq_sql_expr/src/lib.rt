@@ -7,6 +7,7 @@ mod printing;
 mod reading;
 mod refusal;
 mod texts;
+mod writing;
 
 pub use head::Head;
 pub use lists::{read_closed_expr, read_closed_exprs, read_expr, read_exprs, read_keys, read_outs};
@@ -15,3 +16,4 @@ pub use printing::{
 };
 pub use refusal::ReadRefusal;
 pub use texts::{read_name, read_number, skip, starts};
+pub use writing::put_quoted;

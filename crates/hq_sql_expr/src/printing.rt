@@ -8,7 +8,7 @@ ghost use Rattle.hq_sql_tree.specs.Spelling.{name_text, literal_text, int_text, 
 ghost use Rattle.hq_sql_expr.specs.Between.{before};
 
 use hq_base::{Memory, Txt};
-use hq_sql_quotes::put_quoted;
+use crate::put_quoted;
 use hq_sql_tree::{
     Agg, Expr, ExprList, ExprPair, ExprPairList, Order, OrderList, Out, OutList, Word,
 };
