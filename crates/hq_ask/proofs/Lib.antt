@@ -1,3 +1,6 @@
+pub mod Joined
+pub mod Views
+pub mod Sessions
 pub mod Walks
 pub mod Ends
 pub mod Steps

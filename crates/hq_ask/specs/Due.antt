@@ -7,8 +7,8 @@ use Rattle.hq_ask.specs.Known.{Due}
 use Rattle.hq_ask_tree.specs.Touched.{touched}
 use Rattle.hq_ask_tree.specs.Fields.{FieldTrees}
 use Rattle.hq_ask_tree.specs.Request.{BoundTree, AskTree}
-use Rattle.hq_bound.specs.Bound.{bounds_due}
-use Rattle.hq_bound.specs.Laws.{request_of}
+use Rattle.hq_ask.specs.Bound.{bounds_due}
+use Rattle.hq_ask.specs.Laws.{request_of}
 use Rattle.hq_coerce.specs.Choice.{operation_at, no_operation}
 use Rattle.hq_coerce.specs.Faults.{fault_of}
 use Rattle.hq_coerce.specs.Variables.{VarTree}

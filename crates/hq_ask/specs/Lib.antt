@@ -1,3 +1,6 @@
+pub mod Joined
+pub mod Bound
+pub mod Laws
 pub mod Known
 pub mod Looks
 pub mod Summaries

@@ -2,10 +2,17 @@
 #![tactic(auto)]
 
 mod ask;
+mod bound;
+mod conditions;
+mod fields;
 mod heads;
 mod known;
+mod laws;
 mod looks;
 mod request;
 mod summaries;
 
 pub use request::{AskRefusal, build};
+pub use bound::bound_tables;
+pub use conditions::Touched;
+pub use laws::bound_for_sessions;

@@ -25,7 +25,7 @@ use crate::ask::ask_fields;
 use hq_arguments::Context;
 use hq_ask_tree::{Ask, AskFields, BoundList};
 use hq_base::Memory;
-use hq_bound::bound_tables;
+use crate::bound_tables;
 use hq_coerce::{CoerceRefusal, OpRef, VarValues, fault_of, operation_at};
 use hq_collect::{
     CollectedList, Fragments, Request, collected_tree, is_bounded, is_narrow, is_small,

@@ -30,7 +30,7 @@ use Rattle.hq_terms.specs.declared.want.Want.{Want}
 use Rattle.hq_ask_tree.specs.Request.{BoundTree}
 use Rattle.hq_ask_tree.specs.Conditions.{is_constant, is_bound, are_bound, is_condition}
 use Rattle.hq_ask_tree.specs.WellFormed.{is_bound_table}
-use Rattle.hq_bound.specs.Bound.{filter_of, filter_due, with_filter, bound_due, bounds_due}
+use Rattle.hq_ask.specs.Bound.{filter_of, filter_due, with_filter, bound_due, bounds_due}
 use Rattle.hq_request_laws.proofs.Conditions.{whole_fits}
 use Rattle.hq_request_laws.proofs.Items.{each_of, found_each}
 use Rattle.hq_request_laws.proofs.Permitted.{entry}

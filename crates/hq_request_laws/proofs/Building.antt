@@ -39,8 +39,8 @@ use Rattle.hq_ask_tree.specs.TypeNames.{RootNamed, FieldNamed, PartNamed}
 use Rattle.hq_ask_tree.specs.Uses.{UsesHere, UsesPart}
 use Rattle.hq_ask_tree.specs.WellFormed.{IsRequest}
 use Rattle.hq_arguments.specs.Context.{Context}
-use Rattle.hq_bound.specs.Bound.{bounds_due}
-use Rattle.hq_bound.specs.Laws.{request_of, IsBound, BoundForSession}
+use Rattle.hq_ask.specs.Bound.{bounds_due}
+use Rattle.hq_ask.specs.Laws.{request_of, IsBound, BoundForSession}
 use Rattle.hq_ask.specs.Asked.{fields_due}
 use Rattle.hq_ask.specs.Due.{operation_of, collected_due, with_fault, bound_in, build_due}
 use Rattle.hq_ask.specs.Known.{Due}

@@ -7,7 +7,7 @@ ghost use Rattle.hq_gql_tree.specs.Documents.{DocumentTree};
 ghost use Rattle.hq_coerce.specs.Variables.{VarTree};
 ghost use Rattle.hq_request_laws.specs.Built.{Builds};
 
-use hq_bound::bound_for_sessions;
+use hq_ask::bound_for_sessions;
 use hq_collect::collected_apart;
 use hq_roles::leads_where_permitted;
 

@@ -3,7 +3,7 @@ use Rattle.hq_ask.proofs.Steps.{first_stops, second_stops, third_stops, fourth_s
 use Rattle.hq_ask.specs.Due.{operation_of, collected_due, root_due, bound_in, build_due}
 use Rattle.hq_ask_tree.specs.Fields.{FieldTrees, fields_of, keyed_field_view}
 use Rattle.hq_ask_tree.specs.Request.{BoundTree, bound_view, ask_view}
-use Rattle.hq_bound.specs.Laws.{request_of}
+use Rattle.hq_ask.specs.Laws.{request_of}
 use Rattle.hq_coerce.proofs.Refusals.{passed_up}
 use Rattle.hq_coerce.specs.Choice.{operation_at}
 use Rattle.hq_coerce.specs.Variables.{VarTree, var_view}

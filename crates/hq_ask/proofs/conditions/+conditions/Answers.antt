@@ -4,8 +4,8 @@ use Rattle.hq_terms.specs.Bexp.{bexp_view, bexps_of}
 use Rattle.hq_terms.specs.Schema.{Schema}
 use Rattle.hq_terms.specs.Scope.{scope_schema}
 use Rattle.hq_terms.specs.declared.bexp.Bexp.{Bexp}
-use Rattle.hq_bound.proofs.Joined.{one_more}
-use Rattle.hq_bound.proofs.conditions.+conditions.Goals as goal
+use Rattle.hq_ask.proofs.Joined.{one_more}
+use Rattle.hq_ask.proofs.conditions.+conditions.Goals as goal
 
 pub touch_conditions-loop-bexp-preserved : goal.touch_conditions-loop-bexp-preserved
 touch_conditions-loop-bexp-preserved t c =

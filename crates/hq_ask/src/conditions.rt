@@ -6,7 +6,7 @@ ghost use Rattle.hq_terms.specs.Bexp.{bexp_view, bexps_of};
 ghost use Rattle.hq_terms.specs.Scope.{scope_schema};
 ghost use Rattle.hq_ask_tree.specs.Arguments.{sort_view, arguments_view};
 ghost use Rattle.hq_ask_tree.specs.Touched.{condition_tables, conditions_tables, path_tables, list_tables};
-ghost use Rattle.hq_bound.specs.Joined.{noted, joined, sorts_tables};
+ghost use Rattle.hq_ask.specs.Joined.{noted, joined, sorts_tables};
 
 use hq_ask_tree::{Args, Sort};
 use hq_base::Memory;

@@ -4,7 +4,7 @@ ghost use Rattle.hq_terms.specs.Meta.{MetaTree};
 ghost use Rattle.hq_terms.specs.declared.session.Session.{Session as Caller};
 ghost use Rattle.hq_terms.specs.declared.table.Table.{Table as CatalogTable};
 ghost use Rattle.hq_ask_tree.specs.Fields.{FieldTrees};
-ghost use Rattle.hq_bound.specs.Laws.{BoundForSession};
+ghost use Rattle.hq_ask.specs.Laws.{BoundForSession};
 
 /// With the tables that its fields touch, bound for a session, a typed request is one of that session.
 pub fn bound_for_sessions()

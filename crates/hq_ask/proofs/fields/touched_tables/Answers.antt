@@ -3,9 +3,9 @@ use Rattle.hq_ask_tree.specs.Touched.{tables_of, touched}
 use Rattle.hq_ask_tree.specs.Fields.{FieldTrees, fields_of, keyed_field_view}
 use Rattle.hq_terms.specs.Schema.{Schema}
 use Rattle.hq_terms.specs.Scope.{scope_schema}
-use Rattle.hq_bound.specs.Joined.{joined}
-use Rattle.hq_bound.proofs.Joined.{joined_all}
-use Rattle.hq_bound.proofs.fields.touched_tables.Goals as goal
+use Rattle.hq_ask.specs.Joined.{joined}
+use Rattle.hq_ask.proofs.Joined.{joined_all}
+use Rattle.hq_ask.proofs.fields.touched_tables.Goals as goal
 
 pub returns : goal.returns
 returns c =

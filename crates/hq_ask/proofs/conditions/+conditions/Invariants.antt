@@ -2,8 +2,8 @@ use Rattle.std.proofs.Common.{◌≡◌, map, drop}
 use Rattle.hq_terms.specs.Bexp.{bexp_view, bexps_of}
 use Rattle.hq_terms.specs.Scope.{scope_schema}
 use Rattle.hq_ask_tree.specs.Touched.{conditions_tables}
-use Rattle.hq_bound.specs.Joined.{joined}
-use Rattle.hq_bound.proofs.conditions.+conditions.Given as goal
+use Rattle.hq_ask.specs.Joined.{joined}
+use Rattle.hq_ask.proofs.conditions.+conditions.Given as goal
 
 -- the tables so far, and then those of the conditions that are left, are all
 abbrev pub invariant-touch_conditions-loop-bexp : goal.invariant-touch_conditions-loop-bexp

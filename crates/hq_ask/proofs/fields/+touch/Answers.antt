@@ -7,10 +7,10 @@ use Rattle.hq_ask_tree.specs.declared.field.KeyedAskField.{KeyedAskField}
 use Rattle.hq_terms.specs.Schema.{Schema}
 use Rattle.hq_terms.specs.Scope.{scope_schema}
 use Rattle.hq_terms.specs.Selected.{ListArguments}
-use Rattle.hq_bound.specs.Joined.{joined}
-use Rattle.hq_bound.proofs.Joined.{joined_append, one_more}
-use Rattle.hq_bound.proofs.Views.{list_seen, aggregate_seen}
-use Rattle.hq_bound.proofs.fields.+touch.Goals as goal
+use Rattle.hq_ask.specs.Joined.{joined}
+use Rattle.hq_ask.proofs.Joined.{joined_append, one_more}
+use Rattle.hq_ask.proofs.Views.{list_seen, aggregate_seen}
+use Rattle.hq_ask.proofs.fields.+touch.Goals as goal
 
 pub touch_field-returns-in_ok-touch_list-in-List : goal.touch_field-returns-in_ok-touch_list-in-List
 touch_field-returns-in_ok-touch_list-in-List t c =

@@ -8,7 +8,7 @@ ghost use Rattle.hq_terms.specs.declared.bind.BindRefusal.TheVariants as refusal
 ghost use Rattle.hq_ask_tree.specs.Fields.{fields_of, keyed_field_view};
 ghost use Rattle.hq_ask_tree.specs.Request.{bound_view};
 ghost use Rattle.hq_ask_tree.specs.Touched.{touched};
-ghost use Rattle.hq_bound.specs.Bound.{filter_due, bound_due, bounds_due};
+ghost use Rattle.hq_ask.specs.Bound.{filter_due, bound_due, bounds_due};
 
 use crate::fields::touched_tables;
 use hq_ask_tree::{AskFields, Bound, BoundList};

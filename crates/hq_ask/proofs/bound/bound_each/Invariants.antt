@@ -3,8 +3,8 @@ use Rattle.hq_ask_tree.specs.Request.{bound_view}
 use Rattle.hq_base.specs.Due.{mapped}
 use Rattle.hq_terms.specs.Meta.{meta_view}
 use Rattle.hq_terms.specs.Scope.{scope_schema}
-use Rattle.hq_bound.specs.Bound.{bounds_due}
-use Rattle.hq_bound.proofs.bound.bound_each.Given as goal
+use Rattle.hq_ask.specs.Bound.{bounds_due}
+use Rattle.hq_ask.proofs.bound.bound_each.Given as goal
 
 -- the tables so far, and then those that are left
 abbrev pub invariant-loop-t : goal.invariant-loop-t

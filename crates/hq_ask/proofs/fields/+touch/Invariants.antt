@@ -2,8 +2,8 @@ use Rattle.std.proofs.Common.{◌≡◌, map, drop}
 use Rattle.hq_ask_tree.specs.Touched.{tables_of, part_tables}
 use Rattle.hq_ask_tree.specs.Fields.{fields_of, parts_of, keyed_field_view, keyed_part_view}
 use Rattle.hq_terms.specs.Scope.{scope_schema}
-use Rattle.hq_bound.specs.Joined.{joined}
-use Rattle.hq_bound.proofs.fields.+touch.Given as goal
+use Rattle.hq_ask.specs.Joined.{joined}
+use Rattle.hq_ask.proofs.fields.+touch.Given as goal
 
 -- the tables so far, and then those of the fields that are left, are all
 abbrev pub invariant-touch_fields-loop-field : goal.invariant-touch_fields-loop-field

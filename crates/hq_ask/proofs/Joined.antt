@@ -5,7 +5,7 @@ use Rattle.std.specs.Prelude.{◌==◌}
 use Rattle.std.specs.List.{list_any}
 use Rattle.std.proofs.lemmas.Bool.{eq-eqb, eqb-true}
 use Rattle.hq_base.specs.Lists.{firsts}
-use Rattle.hq_bound.specs.Joined.{noted, joined}
+use Rattle.hq_ask.specs.Joined.{noted, joined}
 
 -- tables one after the other
 pub joined_append : (us ts vs : List ℕ) → joined us (ts ++ vs) ≡ joined (joined us ts) vs

@@ -22,8 +22,8 @@ use Rattle.hq_ask_tree.specs.Sessions.{session_grant}
 use Rattle.hq_ask_tree.specs.Touched.{touched}
 use Rattle.hq_ask_tree.specs.Fields.{FieldTrees}
 use Rattle.hq_ask_tree.specs.Request.{BoundTree, with_bound, bound_table, grant_in}
-use Rattle.hq_bound.specs.Bound.{filter_of, filter_due, with_filter, bounds_due}
-use Rattle.hq_bound.specs.Laws.{request_of, BoundForSession}
+use Rattle.hq_ask.specs.Bound.{filter_of, filter_due, with_filter, bounds_due}
+use Rattle.hq_ask.specs.Laws.{request_of, BoundForSession}
 
 -- a permission has no masks
 columns_masks : (p q : Permission) (cs : List ℕ) → p.masks ≡ [] → with_columns p cs ≡ Some q → q.masks ≡ []

@@ -4,9 +4,9 @@ use Rattle.hq_ask_tree.specs.Arguments.{sort_view}
 use Rattle.hq_ask_tree.specs.declared.arguments.Sort.{Sort}
 use Rattle.hq_terms.specs.Schema.{Schema}
 use Rattle.hq_terms.specs.Scope.{scope_schema}
-use Rattle.hq_bound.specs.Joined.{joined, sorts_tables}
-use Rattle.hq_bound.proofs.Joined.{one_more}
-use Rattle.hq_bound.proofs.conditions.touch_sorts.Goals as goal
+use Rattle.hq_ask.specs.Joined.{joined, sorts_tables}
+use Rattle.hq_ask.proofs.Joined.{one_more}
+use Rattle.hq_ask.proofs.conditions.touch_sorts.Goals as goal
 
 pub loop-sort-preserved : goal.loop-sort-preserved
 loop-sort-preserved c =

@@ -9,7 +9,7 @@ use Rattle.hq_ask_tree.specs.Sessions.{IsFor}
 use Rattle.hq_ask_tree.specs.Touched.{touched}
 use Rattle.hq_ask_tree.specs.Fields.{FieldTrees}
 use Rattle.hq_ask_tree.specs.Request.{BoundTree, AskTree}
-use Rattle.hq_bound.specs.Bound.{bounds_due}
+use Rattle.hq_ask.specs.Bound.{bounds_due}
 
 -- the typed request of a session with these root fields and touched tables
 abbrev pub request_of : Session → FieldTrees → List BoundTree → AskTree

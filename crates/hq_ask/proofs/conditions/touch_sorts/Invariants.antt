@@ -1,8 +1,8 @@
 use Rattle.std.proofs.Common.{◌≡◌, map, drop}
 use Rattle.hq_ask_tree.specs.Arguments.{sort_view}
 use Rattle.hq_terms.specs.Scope.{scope_schema}
-use Rattle.hq_bound.specs.Joined.{joined, sorts_tables}
-use Rattle.hq_bound.proofs.conditions.touch_sorts.Given as goal
+use Rattle.hq_ask.specs.Joined.{joined, sorts_tables}
+use Rattle.hq_ask.proofs.conditions.touch_sorts.Given as goal
 
 -- the tables so far, and then those of the sorts that are left, are all
 abbrev pub invariant-loop-sort : goal.invariant-loop-sort

@@ -6,7 +6,7 @@ ghost use Rattle.hq_terms.specs.Scope.{scope_schema};
 ghost use Rattle.hq_ask_tree.specs.Fields.{origin_of, fields_of, parts_of, field_view, part_view, keyed_field_view, keyed_part_view};
 ghost use Rattle.hq_ask_tree.specs.Resolve.{origin_table};
 ghost use Rattle.hq_ask_tree.specs.Touched.{tables_of, field_tables, part_tables, one_part_tables, touched};
-ghost use Rattle.hq_bound.specs.Joined.{joined};
+ghost use Rattle.hq_ask.specs.Joined.{joined};
 
 use crate::conditions::{Touched, note, touch_list};
 use hq_ask_tree::{AggPart, AggParts, AskField, AskFields, KeyedAggPart, KeyedAskField};

@@ -1,8 +1,8 @@
 use Rattle.std.proofs.Common.{◌≡◌, drop}
 use Rattle.hq_terms.specs.Scope.{scope_schema}
 use Rattle.hq_ask_tree.specs.Touched.{path_tables}
-use Rattle.hq_bound.specs.Joined.{joined}
-use Rattle.hq_bound.proofs.conditions.touch_path.Given as goal
+use Rattle.hq_ask.specs.Joined.{joined}
+use Rattle.hq_ask.proofs.conditions.touch_path.Given as goal
 
 -- the tables so far, and then those of the relationships that are left, are all
 abbrev pub invariant-loop-rel : goal.invariant-loop-rel

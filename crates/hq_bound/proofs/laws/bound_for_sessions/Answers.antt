@@ -1,5 +1,0 @@
-use Rattle.hq_bound.proofs.Sessions.{bound_for_session}
-use Rattle.hq_bound.proofs.laws.bound_for_sessions.Goals as goal
-
-pub returns : goal.returns
-returns c = bound_for_session
