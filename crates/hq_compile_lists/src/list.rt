@@ -8,13 +8,13 @@ ghost use Rattle.hq_compiled.specs.Looks.{own_look};
 ghost use Rattle.hq_compiled.specs.Lists.{list_sorts, distinct_columns, sorts_from, children_from};
 ghost use Rattle.hq_compiled.specs.Names.{fold_alias, value_name};
 ghost use Rattle.hq_compiled.specs.Sorts.{sorts_numbers, output_orders};
-ghost use Rattle.hq_compile_context.specs.Contexts.{context_schema, context_rights};
+ghost use Rattle.hq_compile_tables.specs.Contexts.{context_schema, context_rights};
 ghost use Rattle.hq_compile_lists.specs.Bodies.{body_view, body_tree, parts_view, parts_tree, members_tree, array_tree, row_view, rows_tree, object_rows_tree, list_tree};
 
 use crate::row::{Row, object};
 use hq_ask_tree::Args;
 use hq_base::{Memory, Txt};
-use hq_compile_context::{Context, RowUse, fold_alias, row_limit, value_name, wide};
+use hq_compile_tables::{Context, RowUse, fold_alias, row_limit, value_name, wide};
 use hq_compile_predicates::{row_members, where_predicate};
 use hq_compile_sorts::{SortParts, list_sorts, output_orders, sort_parts};
 use hq_compile_tables::{compared_column, from_table, value_output, where_of, with_member};

@@ -10,12 +10,12 @@ ghost use Rattle.hq_compiled.specs.Conditions.{literal, joined_by_and};
 ghost use Rattle.hq_compiled.specs.Fields.{key_members, origin_tie};
 ghost use Rattle.hq_compiled.specs.Looks.{own_look, compared_at};
 ghost use Rattle.hq_compiled.specs.Predicates.{link};
-ghost use Rattle.hq_compile_context.specs.Contexts.{context_schema};
+ghost use Rattle.hq_compile_tables.specs.Contexts.{context_schema};
 ghost use Rattle.hq_compile_lists.specs.Starts.{start_origin, start_table, start_tie};
 
 use hq_ask_tree::Args;
 use hq_base::{Memory, Val};
-use hq_compile_context::{Context, take_number};
+use hq_compile_tables::{Context, take_number};
 use hq_compile_tables::{compared_column, joined_by_and, link, literal};
 use hq_sql_tree::{Pred, PredList};
 use hq_terms::{ColId, Column, Op, RelId, TableId};

@@ -7,12 +7,12 @@ ghost use Rattle.hq_sql_tree.specs.View.{pred_view};
 ghost use Rattle.hq_compiled.specs.Conditions.{with_member, where_of};
 ghost use Rattle.hq_compiled.specs.Predicates.{link, numbers, numbers_all};
 ghost use Rattle.hq_compiled.specs.Masks.{filter_numbers, filter_predicate, where_mode};
-ghost use Rattle.hq_compile_context.specs.Contexts.{context_schema, context_rights};
+ghost use Rattle.hq_compile_tables.specs.Contexts.{context_schema, context_rights};
 ghost use Rattle.hq_compile_tables.specs.Selects.{exists_where};
 ghost use Rattle.hq_compile_predicates.specs.Unmasked.{unmasked, own_predicate, own_predicates};
 
 use hq_base::Memory;
-use hq_compile_context::{Context, take_number};
+use hq_compile_tables::{Context, take_number};
 use hq_compile_tables::{
     comparison, exists_where, first_member, is_null, joined_by_and, joined_by_or, like, link,
     negation, with_member, within,
@@ -28,7 +28,7 @@ trait Counted {
     ghost use Rattle.hq_sql_tree.specs.Tree.{PredTree};
     ghost use Rattle.hq_sql_tree.specs.View.{pred_view};
     ghost use Rattle.hq_compiled.specs.Rights.{Rights};
-    ghost use Rattle.hq_compile_context.specs.Contexts.{context_schema, context_rights};
+    ghost use Rattle.hq_compile_tables.specs.Contexts.{context_schema, context_rights};
 
     /// How many numbers the condition over a table takes.
     ghost more: { Schema → Rights → ℕ → ℕ };

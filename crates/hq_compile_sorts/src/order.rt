@@ -7,13 +7,13 @@ ghost use Rattle.hq_compiled.specs.Looks.{own_look, is_text_column, cell_at};
 ghost use Rattle.hq_compiled.specs.Masks.{value_output};
 ghost use Rattle.hq_compiled.specs.Names.{fold_alias, key_name};
 ghost use Rattle.hq_compiled.specs.Sorts.{end_of, is_text_sort, sort_place, sort_numbers, sort_joins, sorts_numbers, sorts_joins, orders, key_outputs, output_orders};
-ghost use Rattle.hq_compile_context.specs.Contexts.{context_schema, context_rights};
+ghost use Rattle.hq_compile_tables.specs.Contexts.{context_schema, context_rights};
 ghost use Rattle.hq_compile_sorts.specs.RowSorts.{row_sort_view};
 ghost use Rattle.hq_compile_sorts.specs.SortSteps.{step_view, step_tree, step_join, after_step};
 
 use crate::sorts::RowSort;
 use hq_base::Memory;
-use hq_compile_context::{Context, fold_alias, key_name, take_number};
+use hq_compile_tables::{Context, fold_alias, key_name, take_number};
 use hq_compile_predicates::row_members;
 use hq_compile_tables::{column_at, first_row, is_text, link, one_join, value_at, value_output};
 use hq_sql_tree::{Expr, JoinList, Order, OrderList, Out, OutList, PredList};

@@ -4,12 +4,12 @@ ghost use Rattle.hq_terms.specs.Selected.{ascending, entries, sorts_or};
 ghost use Rattle.hq_ask_tree.specs.Arguments.{arguments_view, sort_view};
 ghost use Rattle.hq_compiled.specs.Sorts.{shown_sorts, own_sorts};
 ghost use Rattle.hq_compiled.specs.Lists.{list_sorts};
-ghost use Rattle.hq_compile_context.specs.Contexts.{context_schema};
+ghost use Rattle.hq_compile_tables.specs.Contexts.{context_schema};
 ghost use Rattle.hq_compile_sorts.specs.RowSorts.{row_sort_view};
 
 use hq_ask_tree::{Args, RelIdList, Sort};
 use hq_base::{List, Memory};
-use hq_compile_context::Context;
+use hq_compile_tables::Context;
 use hq_terms::{ColId, TableId};
 use std::alloc::Global;
 

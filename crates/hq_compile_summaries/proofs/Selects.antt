@@ -9,8 +9,8 @@ use Rattle.hq_compiled.specs.Aggregates.{needed, needed_outputs, summary_pairs, 
 use Rattle.hq_compiled.specs.Looks.{own_look}
 use Rattle.hq_compiled.specs.Names.{fold_alias, value_name}
 use Rattle.hq_compiled.specs.Rights.{Rights}
-use Rattle.hq_compile_context.specs.Contexts.{rights_in}
-use Rattle.hq_compile_context.specs.declared.context.Granted.{Granted}
+use Rattle.hq_compile_tables.specs.Contexts.{rights_in}
+use Rattle.hq_compile_tables.specs.declared.context.Granted.{Granted}
 use Rattle.hq_compile_lists.specs.Bodies.{BodyTree, body_tree, rows_tree}
 use Rattle.hq_compile_summaries.specs.SummaryTrees.{needed_rows_tree, folded_tree, summary_tree}
 

@@ -8,7 +8,7 @@ ghost use Rattle.hq_compiled.specs.Looks.{own_look};
 ghost use Rattle.hq_compiled.specs.Names.{fold_alias, value_name, needed_name, unit_name};
 ghost use Rattle.hq_compiled.specs.Aggregates.{needed, needed_cell, taken_value, taken_pairs, count_value, summary_value, summary_pairs, needed_columns, needed_outputs, summary_numbers, plain_select};
 ghost use Rattle.hq_compiled.specs.Lists.{children_from};
-ghost use Rattle.hq_compile_context.specs.Contexts.{context_schema, context_rights};
+ghost use Rattle.hq_compile_tables.specs.Contexts.{context_schema, context_rights};
 ghost use Rattle.hq_compile_lists.specs.Starts.{start_tie};
 ghost use Rattle.hq_compile_summaries.specs.SummaryTrees.{needed_rows_tree, folded_tree, summary_tree};
 ghost use Rattle.hq_compile_summaries.specs.Takings.{taking_of};
@@ -16,7 +16,7 @@ ghost use Rattle.hq_compile_summaries.specs.Takings.{taking_of};
 use crate::needs::{needed, place_of, some_aggregate};
 use hq_ask_tree::{AggCol, AggField, KeyedAggCol, KeyedAggField};
 use hq_base::Memory;
-use hq_compile_context::{
+use hq_compile_tables::{
     Context, RowUse, fold_alias, needed_name, row_limit, unit_name, value_name,
 };
 use hq_compile_lists::{ListStart, fold, list_body, list_rows, list_tie, object, one_row};

@@ -6,7 +6,7 @@ ghost use Rattle.hq_compiled.specs.Looks.{name_of, is_text_column, own_look, cel
 ghost use Rattle.hq_compiled.specs.Masks.{value_place};
 
 use hq_base::{Memory, Txt, Ty};
-use hq_compile_context::{join_alias, table_alias, value_name};
+use crate::{join_alias, table_alias, value_name};
 use hq_sql_tree::Expr;
 use hq_terms::{ColId, Column};
 use std::alloc::Global;

@@ -10,13 +10,13 @@ ghost use Rattle.hq_compiled.specs.Names.{table_alias, join_alias, unit_name};
 ghost use Rattle.hq_compiled.specs.Conditions.{where_of};
 ghost use Rattle.hq_compiled.specs.Predicates.{link, link_members};
 ghost use Rattle.hq_compiled.specs.Selects.{key_orders};
-ghost use Rattle.hq_compile_context.specs.Contexts.{context_schema};
+ghost use Rattle.hq_compile_tables.specs.Contexts.{context_schema};
 ghost use Rattle.hq_compile_tables.specs.Selects.{exists_where, first_row};
 
 use crate::columns::compared_column;
 use crate::condition::{joined_by_and, where_of};
 use hq_base::{Memory, Txt};
-use hq_compile_context::{Context, join_alias, table_alias, unit_name, value_name};
+use crate::{Context, join_alias, table_alias, unit_name, value_name};
 use hq_sql_tree::{
     Expr, From, Join, JoinList, Order, OrderList, Out, OutList, Pred, PredList, Select,
 };

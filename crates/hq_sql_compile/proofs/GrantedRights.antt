@@ -15,8 +15,8 @@ use Rattle.hq_terms.proofs.Places.{at_0}
 use Rattle.hq_base.specs.Lists.{Each}
 use Rattle.hq_ask_tree.specs.Request.{BoundTree, AskTree, bound_table, with_bound, grant_in, grants_in}
 use Rattle.hq_compiled.specs.Rights.{rights_of}
-use Rattle.hq_compile_context.specs.Contexts.{rights_in}
-use Rattle.hq_compile_context.specs.declared.context.Granted.{Granted}
+use Rattle.hq_compile_tables.specs.Contexts.{rights_in}
+use Rattle.hq_compile_tables.specs.declared.context.Granted.{Granted}
 use Rattle.hq_sql_compile.specs.GrantedTrees.{GrantedTree, granted_view, granted_under, granted_for, granted_all, option_list}
 
 -- the first entry that passes a test of what it is seen as

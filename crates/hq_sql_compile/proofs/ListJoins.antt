@@ -10,8 +10,8 @@ use Rattle.hq_compiled.specs.Fields.{fields_joins, field_joins, part_joins, orig
 use Rattle.hq_compiled.specs.Lists.{children_from}
 use Rattle.hq_compiled.specs.Names.{join_alias}
 use Rattle.hq_compiled.specs.Rights.{Rights}
-use Rattle.hq_compile_context.specs.Contexts.{rights_in}
-use Rattle.hq_compile_context.specs.declared.context.Granted.{Granted}
+use Rattle.hq_compile_tables.specs.Contexts.{rights_in}
+use Rattle.hq_compile_tables.specs.declared.context.Granted.{Granted}
 use Rattle.hq_compile_lists.specs.Bodies.{BodyTree, RowTree, body_tree, list_tree}
 use Rattle.hq_compile_summaries.specs.SummaryTrees.{summary_tree}
 use Rattle.hq_sql_compile.specs.Rows.{values_at}

@@ -6,7 +6,7 @@ use Rattle.hq_terms.specs.Permission.{Permission, permission}
 use Rattle.hq_terms.specs.declared.role.Role.{Role}
 use Rattle.hq_terms.specs.declared.table.Table.{Table}
 use Rattle.hq_ask_tree.specs.Request.{BoundTree}
-use Rattle.hq_compile_context.specs.declared.context.Granted.{Granted}
+use Rattle.hq_compile_tables.specs.declared.context.Granted.{Granted}
 
 -- a table with its bound filter and the most rows of a list
 pub record GrantedTree : Type 0 where

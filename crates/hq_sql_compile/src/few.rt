@@ -8,14 +8,14 @@ ghost use Rattle.hq_ask_tree.specs.Resolve.{origin_table};
 ghost use Rattle.hq_compiled.specs.Aggregates.{needed};
 ghost use Rattle.hq_compiled.specs.Correct.{AreFew, IsFew, AreFewParts, IsFewPart};
 ghost use Rattle.hq_compiled.specs.Lists.{list_sorts};
-ghost use Rattle.hq_compile_context.specs.Contexts.{context_schema};
+ghost use Rattle.hq_compile_tables.specs.Contexts.{context_schema};
 ghost use Rattle.hq_sql_compile.specs.Rows.{fields_view, parts_view};
 
 use hq_ask_tree::{
     AggFields, AggPart, AggParts, Args, AskField, AskFields, KeyedAggPart, KeyedAskField,
 };
 use hq_base::Memory;
-use hq_compile_context::Context;
+use hq_compile_tables::Context;
 use hq_compile_summaries::needed;
 use hq_terms::{RelId, TableId};
 use std::alloc::Global;

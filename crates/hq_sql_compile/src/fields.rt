@@ -9,13 +9,13 @@ ghost use Rattle.hq_compiled.specs.Fields.{fields_numbers, field_numbers, parts_
 ghost use Rattle.hq_compiled.specs.Looks.{own_look};
 ghost use Rattle.hq_compiled.specs.Names.{join_alias};
 ghost use Rattle.hq_compiled.specs.Selects.{behind_filter};
-ghost use Rattle.hq_compile_context.specs.Contexts.{context_schema, context_rights};
+ghost use Rattle.hq_compile_tables.specs.Contexts.{context_schema, context_rights};
 ghost use Rattle.hq_compile_lists.specs.Starts.{start_origin, start_table};
 ghost use Rattle.hq_sql_compile.specs.Rows.{fields_view, parts_view, values_at, first_join};
 
 use hq_ask_tree::{AggFields, AggPart, AggParts, AskField, AskFields, KeyedAggPart, KeyedAskField};
 use hq_base::{Memory, Txt};
-use hq_compile_context::{Context, take_number};
+use hq_compile_tables::{Context, take_number};
 use hq_compile_lists::{
     FirstRow, ListStart, Row, empty_row, key_row, list_body, list_select, list_table, list_tie,
     no_row, object, one_row, remote_row,

@@ -4,13 +4,13 @@ ghost use Rattle.hq_terms.specs.Meta.{meta_view};
 ghost use Rattle.hq_terms.specs.Schema.{schema_of};
 ghost use Rattle.hq_ask_tree.specs.Request.{ask_view, bound_view, grants_in};
 ghost use Rattle.hq_compiled.specs.Rights.{rights_of};
-ghost use Rattle.hq_compile_context.specs.Contexts.{rights_in};
+ghost use Rattle.hq_compile_tables.specs.Contexts.{rights_in};
 ghost use Rattle.hq_sql_compile.specs.GrantedTrees.{granted_view, granted_under, granted_for, granted_all, option_list};
 ghost use Rattle.hq_terms.specs.PermView.{permission_view};
 
 use hq_ask_tree::{Ask, Bound};
 use hq_base::{List, Memory};
-use hq_compile_context::{Granted, GrantedList};
+use hq_compile_tables::{Granted, GrantedList};
 use hq_terms::{Catalog, Meta, PermView, Role};
 use std::alloc::Global;
 

@@ -18,7 +18,7 @@ ghost use Rattle.hq_sql_text.specs.Readable.{is_readable};
 ghost use Rattle.hq_compiled.specs.Fields.{fields_numbers};
 ghost use Rattle.hq_compiled.specs.Statement.{statement};
 ghost use Rattle.hq_compiled.specs.Asked.{asked_statement, IsHeld};
-ghost use Rattle.hq_compile_context.specs.Contexts.{context_schema, context_rights};
+ghost use Rattle.hq_compile_tables.specs.Contexts.{context_schema, context_rights};
 ghost use Rattle.hq_sql_compile.specs.Rows.{fields_view};
 
 use crate::few::count_fields;
@@ -26,7 +26,7 @@ use crate::fields::root_row;
 use crate::grants::granted;
 use hq_ask_tree::{Ask, AskFields};
 use hq_base::Memory;
-use hq_compile_context::Context;
+use hq_compile_tables::Context;
 use hq_compile_lists::{object, one_row};
 use hq_compiled::{requests_are_asked, requests_mean_resolved};
 use hq_sql_tree::Select;

@@ -5,7 +5,7 @@ use Rattle.hq_ask_tree.specs.Arguments.{arguments_view}
 use Rattle.hq_sql_tree.specs.View.{pred_view}
 use Rattle.hq_compiled.specs.Lists.{distinct_columns}
 use Rattle.hq_compiled.specs.Looks.{own_look}
-use Rattle.hq_compile_context.specs.Contexts.{context_schema, context_rights}
+use Rattle.hq_compile_tables.specs.Contexts.{context_schema, context_rights}
 use Rattle.hq_compile_lists.proofs.Selects.{body_of}
 use Rattle.hq_compile_lists.proofs.list.list_body.Goals as goal
 

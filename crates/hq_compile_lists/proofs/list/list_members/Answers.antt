@@ -5,7 +5,7 @@ use Rattle.hq_sql_tree.specs.View.{pred_view}
 use Rattle.hq_compiled.specs.Conditions.{with_member}
 use Rattle.hq_compiled.specs.Masks.{filter_numbers, filter_predicate, where_mode}
 use Rattle.hq_compile_tables.proofs.Members.{three_members}
-use Rattle.hq_compile_context.specs.Contexts.{context_schema, context_rights}
+use Rattle.hq_compile_tables.specs.Contexts.{context_schema, context_rights}
 use Rattle.hq_compile_predicates.specs.Unmasked.{own_predicate}
 use Rattle.hq_compile_lists.proofs.list.list_members.Goals as goal
 

@@ -1,7 +1,7 @@
 use Rattle.std.proofs.Common.{◌∙◌, ap}
 use Rattle.hq_ask_tree.specs.Arguments.{arguments_view}
 use Rattle.hq_sql_tree.specs.View.{select_view}
-use Rattle.hq_compile_context.specs.Contexts.{context_schema, context_rights}
+use Rattle.hq_compile_tables.specs.Contexts.{context_schema, context_rights}
 use Rattle.hq_compile_lists.specs.Bodies.{body_view, row_view}
 use Rattle.hq_compile_lists.proofs.Selects.{list_of}
 use Rattle.hq_compile_lists.proofs.list.list_select.Goals as goal

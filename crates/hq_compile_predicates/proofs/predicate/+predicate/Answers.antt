@@ -4,7 +4,7 @@ use Rattle.hq_terms.specs.Bexp.{bexp_view, bexps_of}
 use Rattle.hq_terms.specs.declared.bexp.Bexp.{Bexp}
 use Rattle.hq_sql_tree.specs.View.{pred_view}
 use Rattle.hq_compiled.specs.Predicates.{numbers, numbers_all}
-use Rattle.hq_compile_context.specs.Contexts.{context_schema, context_rights}
+use Rattle.hq_compile_tables.specs.Contexts.{context_schema, context_rights}
 use Rattle.hq_compile_predicates.specs.Unmasked.{unmasked, own_predicate, own_predicates}
 use Rattle.hq_compile_tables.proofs.Loops.{viewed_rest-more, count-more}
 use Rattle.hq_compile_predicates.proofs.Remotes.{remote_of}

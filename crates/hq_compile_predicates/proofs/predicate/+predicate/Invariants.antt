@@ -4,7 +4,7 @@ use Rattle.hq_terms.specs.Schema.{Schema}
 use Rattle.hq_sql_tree.specs.View.{pred_view}
 use Rattle.hq_compiled.specs.Predicates.{Mode, numbers_all}
 use Rattle.hq_compiled.specs.Rights.{Rights}
-use Rattle.hq_compile_context.specs.Contexts.{context_schema, context_rights}
+use Rattle.hq_compile_tables.specs.Contexts.{context_schema, context_rights}
 use Rattle.hq_compile_predicates.specs.Unmasked.{unmasked, own_predicates}
 use Rattle.hq_compile_predicates.proofs.predicate.+predicate.Given as goal
 

@@ -3,8 +3,8 @@ use Rattle.std.specs.Prelude.{option_map, unwrap_or}
 use Rattle.std.proofs.lemmas.Result.{IfOk-weaker, on_ok_weaker}
 use Rattle.hq_terms.specs.Bexp.{BexpTree, bexp_view, never}
 use Rattle.hq_compiled.specs.Predicates.{own_numbers, own_predicate}
-use Rattle.hq_compile_context.specs.Contexts.{context_schema}
-use Rattle.hq_compile_context.specs.declared.context.Granted.{Granted}
+use Rattle.hq_compile_tables.specs.Contexts.{context_schema}
+use Rattle.hq_compile_tables.specs.declared.context.Granted.{Granted}
 use Rattle.hq_compile_predicates.proofs.predicate.filter_predicate.Goals as goal
 
 -- what is granted of the table is its filter

@@ -4,7 +4,7 @@ use Rattle.hq_terms.specs.Schema.{rel}
 use Rattle.hq_sql_tree.specs.Tree.{PredTree}
 use Rattle.hq_compiled.specs.Conditions.{with_member}
 use Rattle.hq_compiled.specs.Predicates.{link}
-use Rattle.hq_compile_context.specs.Contexts.{context_schema, context_rights}
+use Rattle.hq_compile_tables.specs.Contexts.{context_schema, context_rights}
 use Rattle.hq_compile_tables.proofs.Members.{two_members}
 use Rattle.hq_compile_predicates.proofs.predicate.remote_members.Goals as goal
 

@@ -1,6 +1,6 @@
 use Rattle.std.proofs.Common.{List, ℕ, drop, sym, ap, ◌+◌}
 use Rattle.hq_compiled.specs.Sorts.{end_of}
-use Rattle.hq_compile_context.specs.Contexts.{context_schema}
+use Rattle.hq_compile_tables.specs.Contexts.{context_schema}
 use Rattle.hq_compile_tables.proofs.Loops.{left-more}
 use Rattle.hq_compile_sorts.proofs.order.end_of.Goals as goal
 

@@ -1,6 +1,6 @@
 use Rattle.std.proofs.Common.{◌≡◌, drop}
 use Rattle.hq_compiled.specs.Sorts.{end_of}
-use Rattle.hq_compile_context.specs.Contexts.{context_schema}
+use Rattle.hq_compile_tables.specs.Contexts.{context_schema}
 use Rattle.hq_compile_sorts.proofs.order.end_of.Given as goal
 
 abbrev pub invariant-loop-r : goal.invariant-loop-r

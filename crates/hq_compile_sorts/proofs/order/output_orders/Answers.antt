@@ -3,7 +3,7 @@ use Rattle.std.proofs.lemmas.List.{map-append}
 use Rattle.hq_sql_tree.specs.Tree.{OrderTree}
 use Rattle.hq_sql_tree.specs.View.{order_view}
 use Rattle.hq_compiled.specs.Sorts.{output_orders}
-use Rattle.hq_compile_context.specs.Contexts.{context_schema}
+use Rattle.hq_compile_tables.specs.Contexts.{context_schema}
 use Rattle.hq_compile_tables.proofs.Loops.{rest-more}
 use Rattle.hq_compile_sorts.specs.declared.sorts.RowSort.{RowSort}
 use Rattle.hq_compile_sorts.specs.RowSorts.{row_sort_view}

@@ -3,7 +3,7 @@ use Rattle.std.proofs.lemmas.List.{map-append}
 use Rattle.hq_sql_tree.specs.Tree.{JoinTree, OrderTree, OutTree}
 use Rattle.hq_sql_tree.specs.View.{join_view, order_view, out_view}
 use Rattle.hq_compiled.specs.Sorts.{sort_joins}
-use Rattle.hq_compile_context.specs.Contexts.{context_schema, context_rights}
+use Rattle.hq_compile_tables.specs.Contexts.{context_schema, context_rights}
 use Rattle.hq_compile_sorts.proofs.order.push_sort.Goals as goal
 
 pub returns-clause-joins : goal.returns-clause-joins

@@ -4,7 +4,7 @@ use Rattle.hq_sql_tree.specs.View.{join_view, order_view, out_view}
 use Rattle.hq_compiled.specs.Looks.{own_look}
 use Rattle.hq_compiled.specs.Rights.{Rights}
 use Rattle.hq_compiled.specs.Sorts.{sorts_numbers, sorts_joins, orders, key_outputs}
-use Rattle.hq_compile_context.specs.Contexts.{context_schema, context_rights}
+use Rattle.hq_compile_tables.specs.Contexts.{context_schema, context_rights}
 use Rattle.hq_compile_sorts.specs.RowSorts.{row_sort_view}
 use Rattle.hq_compile_sorts.proofs.order.sort_parts.Given as goal
 

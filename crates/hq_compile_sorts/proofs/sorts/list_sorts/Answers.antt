@@ -3,7 +3,7 @@ use Rattle.hq_terms.specs.Schema.{table}
 use Rattle.hq_terms.specs.Selected.{entries}
 use Rattle.hq_ask_tree.specs.Arguments.{arguments_view}
 use Rattle.hq_compiled.specs.Sorts.{shown_sorts, own_sorts}
-use Rattle.hq_compile_context.specs.Contexts.{context_schema}
+use Rattle.hq_compile_tables.specs.Contexts.{context_schema}
 use Rattle.hq_compile_sorts.specs.RowSorts.{row_sort_view}
 use Rattle.hq_compile_sorts.proofs.SortLists.{shown_sorts-append}
 use Rattle.hq_compile_sorts.proofs.sorts.list_sorts.Goals as goal

@@ -3,7 +3,7 @@ use Rattle.hq_terms.specs.Schema.{table}
 use Rattle.hq_terms.specs.declared.table.Column.{Column}
 use Rattle.hq_ask_tree.specs.Arguments.{arguments_view}
 use Rattle.hq_sql_tree.specs.View.{select_view}
-use Rattle.hq_compile_context.specs.Contexts.{context_schema, context_rights}
+use Rattle.hq_compile_tables.specs.Contexts.{context_schema, context_rights}
 use Rattle.hq_compile_lists.specs.Starts.{start_tie}
 use Rattle.hq_compile_summaries.specs.SummaryTrees.{needed_rows_tree}
 use Rattle.hq_compile_summaries.proofs.Selects.{folded_of, output_of}

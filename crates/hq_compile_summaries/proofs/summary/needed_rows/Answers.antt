@@ -5,7 +5,7 @@ use Rattle.hq_ask_tree.specs.Arguments.{arguments_view}
 use Rattle.hq_sql_tree.specs.View.{join_view}
 use Rattle.hq_compiled.specs.Aggregates.{needed_outputs}
 use Rattle.hq_compiled.specs.Looks.{own_look}
-use Rattle.hq_compile_context.specs.Contexts.{context_schema, context_rights}
+use Rattle.hq_compile_tables.specs.Contexts.{context_schema, context_rights}
 use Rattle.hq_compile_lists.specs.Bodies.{body_tree}
 use Rattle.hq_compile_lists.specs.Starts.{start_tie}
 use Rattle.hq_compile_summaries.proofs.Selects.{needed_rows_of}

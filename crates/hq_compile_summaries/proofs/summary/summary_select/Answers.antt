@@ -1,7 +1,7 @@
 use Rattle.std.proofs.Common.{◌∙◌, sym}
 use Rattle.std.proofs.lemmas.Result.{IfOk-weaker}
 use Rattle.hq_ask_tree.specs.Arguments.{arguments_view}
-use Rattle.hq_compile_context.specs.Contexts.{context_schema, context_rights}
+use Rattle.hq_compile_tables.specs.Contexts.{context_schema, context_rights}
 use Rattle.hq_compile_lists.specs.Starts.{start_tie}
 use Rattle.hq_compile_summaries.proofs.Selects.{summary_folded, summary_plain}
 use Rattle.hq_compile_summaries.proofs.summary.summary_select.Goals as goal

@@ -3,7 +3,7 @@ use Rattle.std.proofs.lemmas.List.{drop_more}
 use Rattle.hq_ask_tree.specs.declared.field.KeyedAggPart.{KeyedAggPart}
 use Rattle.hq_ask_tree.specs.declared.field.KeyedAskField.{KeyedAskField}
 use Rattle.hq_compiled.specs.Correct.{AreFew, AreFewParts}
-use Rattle.hq_compile_context.specs.Contexts.{context_schema}
+use Rattle.hq_compile_tables.specs.Contexts.{context_schema}
 use Rattle.hq_sql_compile.specs.Rows.{fields_view, parts_view}
 use Rattle.hq_sql_compile.proofs.few.+few.Goals as goal
 

@@ -1,6 +1,6 @@
 use Rattle.std.proofs.Common.{drop}
 use Rattle.hq_compiled.specs.Correct.{AreFew, AreFewParts}
-use Rattle.hq_compile_context.specs.Contexts.{context_schema}
+use Rattle.hq_compile_tables.specs.Contexts.{context_schema}
 use Rattle.hq_sql_compile.specs.Rows.{fields_view, parts_view}
 use Rattle.hq_sql_compile.proofs.few.+few.Given as goal
 

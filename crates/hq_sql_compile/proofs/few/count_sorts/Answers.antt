@@ -1,7 +1,7 @@
 use Rattle.std.proofs.Common.{◌≡◌, ◌+◌, ap, length, arith}
 use Rattle.hq_ask_tree.specs.Arguments.{arguments_view}
 use Rattle.hq_compiled.specs.Lists.{list_sorts}
-use Rattle.hq_compile_context.specs.Contexts.{context_schema}
+use Rattle.hq_compile_tables.specs.Contexts.{context_schema}
 use Rattle.hq_sql_compile.proofs.SortCounts.{list_sorts-length}
 use Rattle.hq_sql_compile.proofs.few.count_sorts.Goals as goal
 

@@ -11,7 +11,7 @@ use Rattle.hq_sql_tree.specs.declared.expr.ExprPair.{ExprPair}
 use Rattle.hq_sql_tree.specs.declared.select.Join.{Join}
 use Rattle.hq_compiled.specs.Fields.{field_value, field_numbers, fields_numbers, field_joins, fields_joins, part_value, part_numbers, parts_numbers, parts_values, part_joins, parts_joins}
 use Rattle.hq_compiled.specs.Looks.{own_look}
-use Rattle.hq_compile_context.specs.Contexts.{context_schema, context_rights}
+use Rattle.hq_compile_tables.specs.Contexts.{context_schema, context_rights}
 use Rattle.hq_compile_lists.specs.Bodies.{body_view, row_view}
 use Rattle.hq_compile_lists.specs.Starts.{start_origin, start_table}
 use Rattle.hq_compile_tables.proofs.Loops.{rest-more, count-more}

@@ -4,7 +4,7 @@ use Rattle.hq_ask_tree.specs.Arguments.{arguments_view}
 use Rattle.hq_sql_tree.specs.View.{pair_view, join_view}
 use Rattle.hq_compiled.specs.Fields.{fields_numbers, fields_joins, parts_numbers, parts_values, parts_joins}
 use Rattle.hq_compiled.specs.Rights.{Rights}
-use Rattle.hq_compile_context.specs.Contexts.{context_schema, context_rights}
+use Rattle.hq_compile_tables.specs.Contexts.{context_schema, context_rights}
 use Rattle.hq_compile_lists.specs.Starts.{start_origin, start_table}
 use Rattle.hq_sql_compile.specs.Rows.{fields_view, parts_view, values_at}
 use Rattle.hq_sql_compile.proofs.fields.+fields.Given as goal

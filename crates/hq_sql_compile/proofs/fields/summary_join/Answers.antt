@@ -4,7 +4,7 @@ use Rattle.hq_ask_tree.specs.Arguments.{arguments_view}
 use Rattle.hq_ask_tree.specs.declared.aggregate.KeyedAggField.{KeyedAggField}
 use Rattle.hq_sql_tree.specs.Tree.{JoinTree}
 use Rattle.hq_sql_tree.specs.View.{select_view}
-use Rattle.hq_compile_context.specs.Contexts.{context_schema, context_rights}
+use Rattle.hq_compile_tables.specs.Contexts.{context_schema, context_rights}
 use Rattle.hq_compile_lists.specs.Starts.{start_origin, start_tie}
 use Rattle.hq_compile_summaries.specs.SummaryTrees.{summary_tree}
 use Rattle.hq_sql_compile.proofs.ListJoins.{summary_join}

@@ -6,7 +6,7 @@ use Rattle.hq_ask_tree.specs.Root.{table_fields}
 use Rattle.hq_compiled.specs.Correct.{AreFew}
 use Rattle.hq_compiled.specs.Fields.{fields_numbers}
 use Rattle.hq_compiled.specs.Rights.{Rights}
-use Rattle.hq_compile_context.specs.Contexts.{rights_in}
+use Rattle.hq_compile_tables.specs.Contexts.{rights_in}
 use Rattle.hq_sql_compile.proofs.Requests.{few_tables, numbered_long}
 use Rattle.hq_sql_compile.specs.Rows.{fields_view}
 use Rattle.hq_sql_compile.proofs.statement.asked.Goals as goal

@@ -4,8 +4,8 @@ use Rattle.hq_terms.specs.Bexp.{bexp_view, never}
 use Rattle.hq_terms.specs.Schema.{Schema}
 use Rattle.hq_terms.specs.Scope.{scope_schema}
 use Rattle.hq_compiled.specs.Rights.{Rights}
-use Rattle.hq_compile_context.specs.declared.context.Granted.{Granted}
-use Rattle.hq_compile_context.specs.declared.context.Context.{Context}
+use Rattle.hq_compile_tables.specs.declared.context.Granted.{Granted}
+use Rattle.hq_compile_tables.specs.declared.context.Context.{Context}
 
 -- what these entries grant: nothing of a table without one; no column has a mask
 abbrev pub rights_in : List Granted → Rights

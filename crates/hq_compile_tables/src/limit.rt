@@ -1,8 +1,8 @@
 //! The most rows that are selected of a table.
 ghost use Rattle.std.specs.Prelude.{◌≡◌};
 ghost use Rattle.hq_terms.specs.Selected.{smaller};
-ghost use Rattle.hq_compile_context.specs.Contexts.{context_rights};
-ghost use Rattle.hq_compile_context.specs.Limits.{row_limit};
+ghost use Rattle.hq_compile_tables.specs.Contexts.{context_rights};
+ghost use Rattle.hq_compile_tables.specs.Limits.{row_limit};
 
 use crate::context::Context;
 use hq_terms::TableId;

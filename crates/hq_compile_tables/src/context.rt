@@ -25,7 +25,7 @@ pub struct Context<'a> {
 impl<'a> Context<'a> {
     ghost use Rattle.std.specs.Prelude.{◌≡◌, ◌==◌, find, option_copied};
     ghost use Rattle.hq_terms.specs.Schema.{table, rel};
-    ghost use Rattle.hq_compile_context.specs.Contexts.{context_schema};
+    ghost use Rattle.hq_compile_tables.specs.Contexts.{context_schema};
 
     /// The columns of a table; none beyond the catalog.
     pub fn columns(&self, t: TableId) -> &'a [Column]

@@ -1,7 +1,7 @@
 use Rattle.std.proofs.Common.{◌∙◌, ap, sym}
 use Rattle.hq_terms.specs.Meta.{meta_view}
 use Rattle.hq_terms.proofs.Places.{table_present, table_absent}
-use Rattle.hq_compile_context.proofs.context.Context.key.Goals as goal
+use Rattle.hq_compile_tables.proofs.context.Context.key.Goals as goal
 
 pub returns-in-Some : goal.returns-in-Some
 returns-in-Some c =
