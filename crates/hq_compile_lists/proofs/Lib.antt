@@ -1,1 +1,2 @@
+pub mod SortLists
 mod Selects

@@ -13,7 +13,7 @@ use Rattle.hq_compiled.specs.Predicates.{predicate}
 use Rattle.hq_compiled.specs.Rights.{Rights}
 use Rattle.hq_compiled.specs.Selects.{filter_from, behind_filter}
 use Rattle.hq_compiled.specs.Sorts.{sorts_joins, orders, key_outputs, output_orders}
-use Rattle.hq_compile_sorts.specs.declared.order.SortParts.{SortParts}
+use Rattle.hq_compile_lists.specs.declared.order.SortParts.{SortParts}
 use Rattle.hq_compile_lists.specs.declared.list.ListBody.{ListBody}
 use Rattle.hq_compile_lists.specs.declared.row.Row.{Row}
 

@@ -1,2 +1,4 @@
+pub mod RowSorts
+pub mod SortSteps
 pub mod Bodies
 pub mod Starts

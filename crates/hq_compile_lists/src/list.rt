@@ -16,7 +16,7 @@ use hq_ask_tree::Args;
 use hq_base::{Memory, Txt};
 use hq_compile_tables::{Context, RowUse, fold_alias, row_limit, value_name, wide};
 use hq_compile_predicates::{row_members, where_predicate};
-use hq_compile_sorts::{SortParts, list_sorts, output_orders, sort_parts};
+use crate::{SortParts, list_sorts, output_orders, sort_parts};
 use hq_compile_tables::{compared_column, from_table, value_output, where_of, with_member};
 use hq_sql_tree::{Agg, Expr, ExprList, JoinList, OrderList, Out, OutList, Pred, PredList, Select};
 use hq_terms::{ColId, Column, TableId};

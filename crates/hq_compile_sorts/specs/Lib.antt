@@ -1,2 +1,0 @@
-pub mod RowSorts
-pub mod SortSteps
