@@ -1,2 +1,3 @@
+mod SummarySelects
 pub mod SortLists
 mod Selects

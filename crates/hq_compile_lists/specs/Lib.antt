@@ -1,3 +1,5 @@
+pub mod Takings
+pub mod SummaryTrees
 pub mod RowSorts
 pub mod SortSteps
 pub mod Bodies

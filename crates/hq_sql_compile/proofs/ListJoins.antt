@@ -13,7 +13,7 @@ use Rattle.hq_compiled.specs.Rights.{Rights}
 use Rattle.hq_compile_tables.specs.Contexts.{rights_in}
 use Rattle.hq_compile_tables.specs.declared.context.Granted.{Granted}
 use Rattle.hq_compile_lists.specs.Bodies.{BodyTree, RowTree, body_tree, list_tree}
-use Rattle.hq_compile_summaries.specs.SummaryTrees.{summary_tree}
+use Rattle.hq_compile_lists.specs.SummaryTrees.{summary_tree}
 use Rattle.hq_sql_compile.specs.Rows.{values_at}
 
 -- the join of a select under the alias of number n

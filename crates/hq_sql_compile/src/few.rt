@@ -16,7 +16,7 @@ use hq_ask_tree::{
 };
 use hq_base::Memory;
 use hq_compile_tables::Context;
-use hq_compile_summaries::needed;
+use hq_compile_lists::needed;
 use hq_terms::{RelId, TableId};
 use std::alloc::Global;
 

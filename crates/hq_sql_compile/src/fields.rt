@@ -21,7 +21,7 @@ use hq_compile_lists::{
     no_row, object, one_row, remote_row,
 };
 use hq_compile_predicates::row_members;
-use hq_compile_summaries::summary_select;
+use hq_compile_lists::summary_select;
 use hq_compile_tables::{first_select, one_join, own_column, value_column};
 use hq_sql_tree::{Expr, ExprPair, ExprPairList, Join, JoinList};
 use hq_terms::TableId;

@@ -6,7 +6,7 @@ use Rattle.hq_sql_tree.specs.Tree.{JoinTree}
 use Rattle.hq_sql_tree.specs.View.{select_view}
 use Rattle.hq_compile_tables.specs.Contexts.{context_schema, context_rights}
 use Rattle.hq_compile_lists.specs.Starts.{start_origin, start_tie}
-use Rattle.hq_compile_summaries.specs.SummaryTrees.{summary_tree}
+use Rattle.hq_compile_lists.specs.SummaryTrees.{summary_tree}
 use Rattle.hq_sql_compile.proofs.ListJoins.{summary_join}
 use Rattle.hq_sql_compile.proofs.fields.summary_join.Goals as goal
 
