@@ -146,7 +146,10 @@ fn bound_in(
     fields: &AskFields,
 ) -> Result<BoundList, AskRefusal>
     requires { role.now ≡ role_of session.now.role }
-    ensures { Gives (map bound_view) refusal.Memory (bound_in (meta_view scope.now.meta.now) (scope_schema scope.now) session.now (length scope.now.catalog.now.tables) (fields_of (map keyed_field_view fields.now.items))) result }
+    ensures { Gives (map bound_view) refusal.Memory
+          (bound_in (meta_view scope.now.meta.now) (scope_schema scope.now) session.now (length scope.now.catalog.now.tables)
+             (fields_of (map keyed_field_view fields.now.items)))
+          result }
 {
     match bound_tables(alloc, role, scope, session, fields) {
         Ok(bound) => Ok(bound),
@@ -162,7 +165,10 @@ fn fields_of<'a>(
     scope: Scope<'a>,
     fields: &CollectedList<'_>,
 ) -> Result<AskFields, AskRefusal>
-    ensures { let s = scope_schema scope.entry in Gives (λ v. fields_of (map keyed_field_view v.items)) refusal.Memory (root_due (map var_view vars.now) (schema_view schema.now) s (length scope.entry.catalog.now.tables) (trees_of (map collected_view fields.now.items))) result }
+    ensures { let s = scope_schema scope.entry in Gives (λ v. fields_of (map keyed_field_view v.items)) refusal.Memory
+          (root_due (map var_view vars.now) (schema_view schema.now) s (length scope.entry.catalog.now.tables)
+             (trees_of (map collected_view fields.now.items)))
+          result }
 {
     let root = TableId::new(scope.catalog.tables.len());
     let context = Context {

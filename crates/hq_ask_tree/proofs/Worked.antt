@@ -359,15 +359,20 @@ home =
     (only (codes "__typename") (typename (codes "author")))))))
 
 home_for_1 : given user_1 home
-    ≡ codes "{\"author\":[{\"id\":1,\"name\":\"Ann\",\"articles_aggregate\":{\"aggregate\":{\"count\":2}},\"__typename\":\"author\"},{\"id\":2,\"name\":\"Bob\",\"articles_aggregate\":{\"aggregate\":{\"count\":1}},\"__typename\":\"author\"}]}"
+    ≡ codes
+      "{\"author\":[{\"id\":1,\"name\":\"Ann\",\"articles_aggregate\":{\"aggregate\":{\"count\":2}},\"__typename\":\"author\"},{\"id\":2,\"name\":\"Bob\",\"articles_aggregate\":{\"aggregate\":{\"count\":1}},\"__typename\":\"author\"}]}"
 unfolding digits escaped
 home_for_1 = refl
 
-home_for_2 : given user_2 home ≡ codes "{\"author\":[{\"id\":1,\"name\":\"Ann\",\"articles_aggregate\":{\"aggregate\":{\"count\":1}},\"__typename\":\"author\"},{\"id\":2,\"name\":\"Bob\",\"articles_aggregate\":{\"aggregate\":{\"count\":1}},\"__typename\":\"author\"}]}"
+home_for_2 : given user_2 home
+  ≡ codes
+    "{\"author\":[{\"id\":1,\"name\":\"Ann\",\"articles_aggregate\":{\"aggregate\":{\"count\":1}},\"__typename\":\"author\"},{\"id\":2,\"name\":\"Bob\",\"articles_aggregate\":{\"aggregate\":{\"count\":1}},\"__typename\":\"author\"}]}"
 unfolding digits escaped
 home_for_2 = refl
 
-home_for_admin : given admin home ≡ codes "{\"author\":[{\"id\":1,\"name\":\"Ann\",\"articles_aggregate\":{\"aggregate\":{\"count\":2}},\"__typename\":\"author\"},{\"id\":2,\"name\":\"Bob\",\"articles_aggregate\":{\"aggregate\":{\"count\":1}},\"__typename\":\"author\"}]}"
+home_for_admin : given admin home
+  ≡ codes
+    "{\"author\":[{\"id\":1,\"name\":\"Ann\",\"articles_aggregate\":{\"aggregate\":{\"count\":2}},\"__typename\":\"author\"},{\"id\":2,\"name\":\"Bob\",\"articles_aggregate\":{\"aggregate\":{\"count\":1}},\"__typename\":\"author\"}]}"
 unfolding digits escaped
 home_for_admin = refl
 

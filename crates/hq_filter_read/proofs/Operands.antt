@@ -32,7 +32,8 @@ second true b h = h
 second false b h = cc
 
 -- a constant of a number that passes a test
-number_fits : (ty : Ty) (wanted : Want) (n : ℤ) (b : Bool) → (b ≡ true → int_fits ty n ≡ true) → IfSome (result_ok (ok_or (option_map val.Int (cond b (Some n) None)) wanted)) (λ v. constant_fits ty v ≡ true)
+number_fits : (ty : Ty) (wanted : Want) (n : ℤ) (b : Bool) → (b ≡ true → int_fits ty n ≡ true)
+  → IfSome (result_ok (ok_or (option_map val.Int (cond b (Some n) None)) wanted)) (λ v. constant_fits ty v ≡ true)
 number_fits ty wanted n true h = h refl
 number_fits ty wanted n false h = tt
 
@@ -56,7 +57,8 @@ pattern_read s = by (is_ok (pattern_of s)) refl
     by false e = tt
 
 -- a session variable, or else a constant that passes a test
-either_fits : (Fits : Operand → Type 0) (variable : Option (List ℕ)) (value : Option Val) → ((name : List ℕ) → Fits (Session name)) → IfSome value (λ v. Fits (Const v)) → IfSome (option_or (option_map Session variable) (option_map Const value)) Fits
+either_fits : (Fits : Operand → Type 0) (variable : Option (List ℕ)) (value : Option Val) → ((name : List ℕ) → Fits (Session name))
+  → IfSome value (λ v. Fits (Const v)) → IfSome (option_or (option_map Session variable) (option_map Const value)) Fits
 either_fits Fits (Some name) value h k = h name
 either_fits Fits None (Some v) h k = k
 either_fits Fits None None h k = tt

@@ -54,7 +54,11 @@ fn add_elements<'a>(
     elements: &'a Vec<Placed>,
     place: Option<Place<'a>>,
 ) -> Result<(), Memory>
-    ensures { OnOk result (map node_view nodes.new.items ≡ map node_view nodes.old.items ++ elements_nodes (schema_view schema.now) (option_map place_view place.entry) (elements_of (map placed_view elements.now.items))) }
+    ensures { OnOk result
+          (map node_view nodes.new.items
+             ≡ map node_view nodes.old.items
+               ++ elements_nodes (schema_view schema.now) (option_map place_view place.entry)
+                 (elements_of (map placed_view elements.now.items))) }
 {
     for element in elements {
         add_value(&mut *nodes, schema, element, place)?;
@@ -98,7 +102,11 @@ fn add_argument<'a>(
     argument: &'a Argument,
     args: Option<&'a ArgDefList>,
 ) -> Result<(), Memory>
-    ensures { OnOk result (map node_view nodes.new.items ≡ map node_view nodes.old.items ++ argument_nodes (schema_view schema.now) (option_map (λ defs. map arg_view defs.now) args.entry) (argument_view argument.now)) }
+    ensures { OnOk result
+          (map node_view nodes.new.items
+             ≡ map node_view nodes.old.items
+               ++ argument_nodes (schema_view schema.now) (option_map (λ defs. map arg_view defs.now) args.entry)
+                 (argument_view argument.now)) }
 {
     nodes.push(Node::Argument(argument, args))?;
     let place = arg_place(args, &argument.name);
@@ -112,7 +120,11 @@ pub fn add_arguments<'a>(
     arguments: &'a Vec<Argument>,
     args: Option<&'a ArgDefList>,
 ) -> Result<(), Memory>
-    ensures { OnOk result (map node_view nodes.new.items ≡ map node_view nodes.old.items ++ arguments_nodes (schema_view schema.now) (option_map (λ defs. map arg_view defs.now) args.entry) (map argument_view arguments.now.items)) }
+    ensures { OnOk result
+          (map node_view nodes.new.items
+             ≡ map node_view nodes.old.items
+               ++ arguments_nodes (schema_view schema.now) (option_map (λ defs. map arg_view defs.now) args.entry)
+                 (map argument_view arguments.now.items)) }
 {
     for argument in arguments {
         add_argument(&mut *nodes, schema, argument, args)?;

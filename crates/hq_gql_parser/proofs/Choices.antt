@@ -21,7 +21,10 @@ use Rattle.hq_gql_parser.proofs.Exact.{first, first_next, Begins, Taken, Wrong, 
 abbrev pub OfUse : {A : Type 0} → (Token → Option A) → A → Language
 OfUse use_of x ts = (t : Token) × (ts ≡ t ∷ []) × (use_of t ≡ Some x)
 
-module _ {A : Type 0} (d e : ℕ) (use_of : Token → Option A) (s : Set) (starts : (t : Token) (x : A) → use_of t ≡ Some x → s (next_of t.kind) ≡ true) (rooms : (t : Token) (x : A) → use_of t ≡ Some x → left_behind t.kind d ≡ Some e) (some : (t : Token) × (x : A) × (use_of t ≡ Some x)) where
+module _ {A : Type 0} (d e : ℕ) (use_of : Token → Option A) (s : Set)
+  (starts : (t : Token) (x : A) → use_of t ≡ Some x → s (next_of t.kind) ≡ true)
+  (rooms : (t : Token) (x : A) → use_of t ≡ Some x → left_behind t.kind d ≡ Some e) (some : (t : Token) × (x : A) × (use_of t ≡ Some x))
+  where
   begins_none : Begins (OfUse use_of) []
   begins_none = (some.0 ∷ [], some.1, (some.0, refl, some.2))
 
@@ -70,7 +73,9 @@ exact_pure d x = record {
 
 -- ---- the same parser
 
-module _ {A : Type 0} {d e : ℕ} {p : Parse A} {R : A → Language} {s k : Set} (T : A → Language) (s' k' : Set) (law : Exact d e p R s k) (to : (x : A) (ts : List Token) → R x ts → T x ts) (from : (x : A) (ts : List Token) → T x ts → R x ts) (starts : subset s s' ≡ true) (follow : subset k' k ≡ true) where
+module _ {A : Type 0} {d e : ℕ} {p : Parse A} {R : A → Language} {s k : Set} (T : A → Language) (s' k' : Set) (law : Exact d e p R s k)
+  (to : (x : A) (ts : List Token) → R x ts → T x ts) (from : (x : A) (ts : List Token) → T x ts → R x ts) (starts : subset s s' ≡ true)
+  (follow : subset k' k ≡ true) where
   as_seen : (ts : List Token) (r : Result (A × List Token) Stop) → Seen d e p R ts r → Seen d e p T ts r
   as_seen ts (Ok x) (front, is, r, m, local) = (front, is, to x.0 front r, m, local)
   as_seen ts (Err (Unexpected n)) (front, rest, is, len, (more, x, r), m, local) = (front, rest, is, len, (more, x, to x (front ++ more) r), m, local)
@@ -126,13 +131,15 @@ module _ {A : Type 0} (d e : ℕ) (test : Set) (p q : Parse A) (R S : A → Lang
 
   pub on_seen : (ts : List Token) → test (next ts) ≡ true → (r : Result (A × List Token) Stop) → Seen d e p R ts r → Seen d e (either test p q) (Either R S) ts r
   on_seen ts t (Ok x) (front, is, r, m, local) = (front, is, inl r, m, λ after h. rw (ahead_is front after x.1 ts true h is t) (local after h))
-  on_seen ts t (Err (Unexpected n)) (front, rest, is, len, (more, x, r), m, local) = (front, rest, is, len, (more, x, inl r), m, λ after h. rw (ahead_is front after rest ts true h is t) (local after h))
+  on_seen ts t (Err (Unexpected n)) (front, rest, is, len, (more, x, r), m, local) =
+      (front, rest, is, len, (more, x, inl r), m, λ after h. rw (ahead_is front after rest ts true h is t) (local after h))
   on_seen ts t (Err (TooDeep n)) (front, u, rest, is, len, (more, x, r), m, o) = (front, u, rest, is, len, (more, x, inl r), m, o)
   on_seen ts t (Err Memory) seen = absurd seen
 
   pub off_seen : (ts : List Token) → test (next ts) ≡ false → (r : Result (A × List Token) Stop) → Seen d e q S ts r → Seen d e (either test p q) (Either R S) ts r
   off_seen ts t (Ok x) (front, is, r, m, local) = (front, is, inr r, m, λ after h. rw (ahead_is front after x.1 ts false h is t) (local after h))
-  off_seen ts t (Err (Unexpected n)) (front, rest, is, len, (more, x, r), m, local) = (front, rest, is, len, (more, x, inr r), m, λ after h. rw (ahead_is front after rest ts false h is t) (local after h))
+  off_seen ts t (Err (Unexpected n)) (front, rest, is, len, (more, x, r), m, local) =
+      (front, rest, is, len, (more, x, inr r), m, λ after h. rw (ahead_is front after rest ts false h is t) (local after h))
   off_seen ts t (Err (TooDeep n)) (front, u, rest, is, len, (more, x, r), m, o) = (front, u, rest, is, len, (more, x, inr r), m, o)
   off_seen ts t (Err Memory) seen = absurd seen
 

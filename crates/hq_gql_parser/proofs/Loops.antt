@@ -34,7 +34,9 @@ pub begun : {A : Type 0} (test : Set) (item : Parse A) (ts : List Token) (x : A)
 unfolding some
 begun test item ts x rest e = rw e refl
 
-module _ {A : Type 0} {d : ℕ} {item : Parse A} {R : A → Language} {s k : Set} (law : Exact d d item R s k) (takes : s ahead.End ≡ false) (test : Set) (found : List A) (ts : List Token) (total : Result (List A × List Token) Stop) (so_far : IsParsed test item found ts total) where
+module _ {A : Type 0} {d : ℕ} {item : Parse A} {R : A → Language} {s k : Set} (law : Exact d d item R s k) (takes : s ahead.End ≡ false)
+  (test : Set) (found : List A) (ts : List Token) (total : Result (List A × List Token) Stop) (so_far : IsParsed test item found ts total)
+  where
   -- where an item stops, all stops
   pub stopped : test (next ts) ≡ true → (e : Stop) → (e ≡ Memory) ⊎ (item ts ≡ Err e) → (e ≡ Memory) ⊎ (total ≡ Err e)
   stopped t e (inl m) = inl m

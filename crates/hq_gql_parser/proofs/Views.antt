@@ -9,7 +9,11 @@ use Rattle.hq_gql_tree.specs.declared.selection.Inline.{Inline, roll-Inline, fol
 use Rattle.hq_gql_tree.specs.Selections.{SelectionTree, field, inline, FieldTree, InlineTree, selections_of, selection_view, selection_step, field_step, inline_step}
 
 pub field_seen : (f : Field-F Selection Field Inline) → selection_view (selections.Field (roll-Field f))
-    ≡ field (record { at = f.at; alias = f.alias; name = f.name; args = map argument_view f.args.items; directives = map directive_view f.directives.items }) (selections_of (map selection_view f.selections.items))
+    ≡ field
+      (record
+         { at = f.at; alias = f.alias; name = f.name; args = map argument_view f.args.items;
+            directives = map directive_view f.directives.items })
+      (selections_of (map selection_view f.selections.items))
 unfolding roll-Selection denote.Hole.Carrier.roll
 field_seen f =
     fold-roll-Selection SelectionTree FieldTree InlineTree selection_step field_step inline_step (Selection-F.Field (roll-Field f))

@@ -55,13 +55,17 @@ served deny give counts over n b b' old new request g Whole true le e response c
     record {
       out = reply_bytes (manner g request true) (response_text g);
       wrote = writes;
-      ends = closed (record { head = response.head; body = response.body; request = request; response = g; ends = true }) (drop request.len b) (response.exchange true) e refl count response.all refl refl;
+      ends =
+          closed (record { head = response.head; body = response.body; request = request; response = g; ends = true }) (drop request.len b)
+            (response.exchange true) e refl count response.all refl refl;
     }
 served deny give counts over n b b' old new request g Fault closes le e response count rest writes =
     record {
       out = take writes.0 (reply_bytes (manner g request closes) (response_text g));
       wrote = writes.2;
-      ends = reply_fault (record { head = response.head; body = response.body; request = request; response = g; ends = closes }) (drop request.len b) writes.0 (response.exchange closes) e count response.all refl refl;
+      ends =
+          reply_fault (record { head = response.head; body = response.body; request = request; response = g; ends = closes })
+            (drop request.len b) writes.0 (response.exchange closes) e count response.all refl refl;
     }
 served deny give counts over n b b' old new request g Memory closes le e response count rest writes =
     record { out = []; wrote = appends_nothing old new writes; ends = memory refl refl }

@@ -34,7 +34,8 @@ pub record Responds (deny : List Header → Type 0) (give : List Header → List
   pub exchange : (ends : Bool) → IsExchange deny give (record { head = head; body = body; request = request; response = r; ends = ends })
 
 -- a request after which the connection goes on
-pub record Going (deny : List Header → Type 0) (give : List Header → List ℕ → Reply → Type 0) (counts : Response → Type 0) (n : ℕ) (at_hand at_hand' : List ℕ) (written written' : Option (List ℕ)) : Type 0 where
+pub record Going (deny : List Header → Type 0) (give : List Header → List ℕ → Reply → Type 0) (counts : Response → Type 0) (n : ℕ)
+  (at_hand at_hand' : List ℕ) (written written' : Option (List ℕ)) : Type 0 where
   pub x : Exchange
   pub exchange : IsExchange deny give x
   pub open_end : x.ends ≡ false
@@ -45,13 +46,15 @@ pub record Going (deny : List Header → Type 0) (give : List Header → List �
   pub wrote : Appends written written' (due_bytes x)
 
 -- an end
-pub record Stopping (deny : List Header → Type 0) (give : List Header → List ℕ → Reply → Type 0) (counts : Response → Type 0) (over : Type 0) (n : ℕ) (at_hand : List ℕ) (written written' : Option (List ℕ)) (e : ConnEnd) : Type 0 where
+pub record Stopping (deny : List Header → Type 0) (give : List Header → List ℕ → Reply → Type 0) (counts : Response → Type 0)
+  (over : Type 0) (n : ℕ) (at_hand : List ℕ) (written written' : Option (List ℕ)) (e : ConnEnd) : Type 0 where
   pub out : List ℕ
   pub wrote : Appends written written' out
   pub ends : Ending deny give counts over n at_hand out e
 
 -- the request at the front of the bytes at hand was served
-abbrev pub ServedAs : (List Header → Type 0) → (List Header → List ℕ → Reply → Type 0) → (Response → Type 0) → Type 0 → ℕ → (at_hand at_hand' : List ℕ) → (written written' : Option (List ℕ)) → Step → Type 0
+abbrev pub ServedAs : (List Header → Type 0) → (List Header → List ℕ → Reply → Type 0) → (Response → Type 0) → Type 0 → ℕ
+  → (at_hand at_hand' : List ℕ) → (written written' : Option (List ℕ)) → Step → Type 0
 ServedAs deny give counts over n at_hand at_hand' written written' step.GoesOn = Going deny give counts n at_hand at_hand' written written'
 ServedAs deny give counts over n at_hand at_hand' written written' (step.Ends e) = Stopping deny give counts over n at_hand written written' e
 
@@ -78,13 +81,15 @@ over_as [] = end.Ended
 over_as (b ∷ bs) = end.Cut (length (b ∷ bs))
 
 -- the next request was read, and served
-pub record Stepped (deny : List Header → Type 0) (give : List Header → List ℕ → Reply → Type 0) (counts : Response → Type 0) (n : ℕ) (left left' : Option (List ℕ)) (at_hand at_hand' : List ℕ) (written written' : Option (List ℕ)) (s : Step) : Type 0 where
+pub record Stepped (deny : List Header → Type 0) (give : List Header → List ℕ → Reply → Type 0) (counts : Response → Type 0) (n : ℕ)
+  (left left' : Option (List ℕ)) (at_hand at_hand' : List ℕ) (written written' : Option (List ℕ)) (s : Step) : Type 0 where
   pub piece : List ℕ
   pub consumed : Consumes left left' piece
   pub served : ServedAs deny give counts (IsAtEnd left') n (at_hand ++ piece) at_hand' written written' s
 
 -- n requests were served, and these bytes are at hand
-pub record Ran (deny : List Header → Type 0) (give : List Header → List ℕ → Reply → Type 0) (faults faults' : ℕ) (n : ℕ) (left left' : Option (List ℕ)) (at_hand : List ℕ) (written written' : Option (List ℕ)) : Type 0 where
+pub record Ran (deny : List Header → Type 0) (give : List Header → List ℕ → Reply → Type 0) (faults faults' : ℕ) (n : ℕ)
+  (left left' : Option (List ℕ)) (at_hand : List ℕ) (written written' : Option (List ℕ)) : Type 0 where
   pub done : List Exchange
   pub count : length done ≡ n
   pub few : n ≤ 999

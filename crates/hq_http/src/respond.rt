@@ -68,7 +68,8 @@ fn ask_responder<H: Responder>(
     requires fields { All (IsHeaderWithin (length head.now)) fields.now }
     requires small { length body.now ≤ 1048576 }
     ensures ready { H.ready responder.new }
-    ensures responds { MayRespond (H.may_deny responder.old (headers_in (map (header_bytes head.now) fields.now))) (H.may_give responder.old (headers_in (map (header_bytes head.now) fields.now)) body.now) Place.Graphql result }
+    ensures responds { MayRespond (H.may_deny responder.old (headers_in (map (header_bytes head.now) fields.now)))
+          (H.may_give responder.old (headers_in (map (header_bytes head.now) fields.now)) body.now) Place.Graphql result }
     ensures failures { Counts (H.faults responder.old) (failures_of result) (H.faults responder.new) }
     ensures later { H.faults responder.old ≤ H.faults responder.new }
     ensures same_deny { (headers : List Header) → H.may_deny responder.new headers → H.may_deny responder.old headers }
@@ -98,7 +99,8 @@ pub fn respond_at<H: Responder>(
     requires fields { All (IsHeaderWithin (length head.now)) fields.now }
     requires small { length body.now ≤ 1048576 }
     ensures ready { H.ready responder.new }
-    ensures responds { MayRespond (H.may_deny responder.old (headers_in (map (header_bytes head.now) fields.now))) (H.may_give responder.old (headers_in (map (header_bytes head.now) fields.now)) body.now) place result }
+    ensures responds { MayRespond (H.may_deny responder.old (headers_in (map (header_bytes head.now) fields.now)))
+          (H.may_give responder.old (headers_in (map (header_bytes head.now) fields.now)) body.now) place result }
     ensures failures { Counts (H.faults responder.old) (failures_of result) (H.faults responder.new) }
     ensures later { H.faults responder.old ≤ H.faults responder.new }
     ensures same_deny { (headers : List Header) → H.may_deny responder.new headers → H.may_deny responder.old headers }

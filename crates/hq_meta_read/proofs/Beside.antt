@@ -21,7 +21,10 @@ pub record WithRels (H : TrackedTree → Type 0) (R : ℕ → List Rel → Type 
   pub same : map (λ k. k.table) new ≡ map (λ k. k.table) ks
   pub each : AllByRecursion (λ k. H k × R k.table k.rels) new
 
-pub put_rels : (H : TrackedTree → Type 0) (R : ℕ → List Rel → Type 0) → ((k : TrackedTree) (rs : List Rel) → H k → H (record k { rels = rs })) → (ks : List TrackedTree) (js : List JsonTree) (rels : List (List Rel)) → length js ≡ length ks → AllByRecursion H ks → AllZip (λ e rs. R e.0 rs) (zip (map (λ k. k.table) ks) js) rels → WithRels H R ks (rels_beside ks rels)
+pub put_rels : (H : TrackedTree → Type 0) (R : ℕ → List Rel → Type 0)
+  → ((k : TrackedTree) (rs : List Rel) → H k → H (record k { rels = rs }))
+  → (ks : List TrackedTree) (js : List JsonTree) (rels : List (List Rel)) → length js ≡ length ks → AllByRecursion H ks
+  → AllZip (λ e rs. R e.0 rs) (zip (map (λ k. k.table) ks) js) rels → WithRels H R ks (rels_beside ks rels)
 put_rels H R keep [] js rels long hs beside = record { same = refl; each = tt }
 put_rels H R keep (k ∷ ks) [] rels long hs beside = cc
 put_rels H R keep (k ∷ ks) (j ∷ js) [] long hs beside = absurd beside
@@ -34,7 +37,10 @@ pub record WithPerms (H : TrackedTree → Type 0) (R : ℕ → List PermTree →
   pub same : map (λ k. k.table) new ≡ map (λ k. k.table) ks
   pub each : AllByRecursion (λ k. H k × R k.table k.perms) new
 
-pub put_perms : (H : TrackedTree → Type 0) (R : ℕ → List PermTree → Type 0) → ((k : TrackedTree) (ps : List PermTree) → H k → H (record k { perms = ps })) → (ks : List TrackedTree) (js : List JsonTree) (perms : List (List PermTree)) → length js ≡ length ks → AllByRecursion H ks → AllZip (λ e ps. R e.0 ps) (zip (map (λ k. k.table) ks) js) perms → WithPerms H R ks (perms_beside ks perms)
+pub put_perms : (H : TrackedTree → Type 0) (R : ℕ → List PermTree → Type 0)
+  → ((k : TrackedTree) (ps : List PermTree) → H k → H (record k { perms = ps }))
+  → (ks : List TrackedTree) (js : List JsonTree) (perms : List (List PermTree)) → length js ≡ length ks → AllByRecursion H ks
+  → AllZip (λ e ps. R e.0 ps) (zip (map (λ k. k.table) ks) js) perms → WithPerms H R ks (perms_beside ks perms)
 put_perms H R keep [] js perms long hs beside = record { same = refl; each = tt }
 put_perms H R keep (k ∷ ks) [] perms long hs beside = cc
 put_perms H R keep (k ∷ ks) (j ∷ js) [] long hs beside = absurd beside
@@ -43,7 +49,8 @@ put_perms H R keep (k ∷ ks) (j ∷ js) (ps ∷ perms) long hs beside =
     record { same = ap (λ ts. k.table ∷ ts) rest.same; each = ((keep k ps hs.0, beside.0), rest.each) }
 
 -- what each permission list has stands in the tables
-pub perms_stand : (R : ℕ → List PermTree → Type 0) (ks : List TrackedTree) (js : List JsonTree) (perms : List (List PermTree)) → AllZip (λ e ps. R e.0 ps) (zip (map (λ k. k.table) ks) js) perms → AllByRecursion (λ k. R k.table k.perms) (perms_beside ks perms)
+pub perms_stand : (R : ℕ → List PermTree → Type 0) (ks : List TrackedTree) (js : List JsonTree) (perms : List (List PermTree))
+  → AllZip (λ e ps. R e.0 ps) (zip (map (λ k. k.table) ks) js) perms → AllByRecursion (λ k. R k.table k.perms) (perms_beside ks perms)
 perms_stand R [] js perms beside = tt
 perms_stand R (k ∷ ks) js [] beside = tt
 perms_stand R (k ∷ ks) [] (ps ∷ perms) beside = absurd beside
@@ -54,7 +61,9 @@ pub tracked_by_place : (ks : List TrackedTree) (t : ℕ) → is_some (find (λ k
 tracked_by_place [] t = refl
 tracked_by_place (k ∷ ks) t = by (k.table == t) (tracked_by_place ks t)
   where
-    by : (b : Bool) → is_some (find (λ k. k.table == t) ks) ≡ is_some (find (λ u. u == t) (map (λ k. k.table) ks)) → is_some (cond b (Some k) (find (λ k. k.table == t) ks)) ≡ is_some (cond b (Some k.table) (find (λ u. u == t) (map (λ k. k.table) ks)))
+    by : (b : Bool) → is_some (find (λ k. k.table == t) ks) ≡ is_some (find (λ u. u == t) (map (λ k. k.table) ks))
+      → is_some (cond b (Some k) (find (λ k. k.table == t) ks))
+        ≡ is_some (cond b (Some k.table) (find (λ u. u == t) (map (λ k. k.table) ks)))
     by true rest = refl
     by false rest = rest
 
@@ -62,7 +71,8 @@ pub same_tracked : (m n : MetaTree) (t : ℕ) → map (λ k. k.table) m.tracked 
 same_tracked m n t same = tracked_by_place m.tracked t ∙ ap (λ ts. is_some (find (λ u. u == t) ts)) same ∙ sym (tracked_by_place n.tracked t)
 
 -- permissions change no relationship
-rels_kept : (ks : List TrackedTree) (perms : List (List PermTree)) (t : ℕ) → length perms ≡ length ks → option_map (λ k. k.rels) (find (λ k. k.table == t) (perms_beside ks perms)) ≡ option_map (λ k. k.rels) (find (λ k. k.table == t) ks)
+rels_kept : (ks : List TrackedTree) (perms : List (List PermTree)) (t : ℕ) → length perms ≡ length ks
+  → option_map (λ k. k.rels) (find (λ k. k.table == t) (perms_beside ks perms)) ≡ option_map (λ k. k.rels) (find (λ k. k.table == t) ks)
 rels_kept [] perms t long = refl
 rels_kept (k ∷ ks) [] t long = cc
 rels_kept (k ∷ ks) (ps ∷ perms) t long = by (k.table == t) (rels_kept ks perms t (shorter ps perms k ks long))
@@ -70,7 +80,10 @@ rels_kept (k ∷ ks) (ps ∷ perms) t long = by (k.table == t) (rels_kept ks per
     new : TrackedTree
     new = record k { perms = ps }
 
-    by : (b : Bool) → option_map (λ k. k.rels) (find (λ k. k.table == t) (perms_beside ks perms)) ≡ option_map (λ k. k.rels) (find (λ k. k.table == t) ks) → option_map (λ k. k.rels) (cond b (Some new) (find (λ k. k.table == t) (perms_beside ks perms))) ≡ option_map (λ k. k.rels) (cond b (Some k) (find (λ k. k.table == t) ks))
+    by : (b : Bool)
+      → option_map (λ k. k.rels) (find (λ k. k.table == t) (perms_beside ks perms)) ≡ option_map (λ k. k.rels) (find (λ k. k.table == t) ks)
+      → option_map (λ k. k.rels) (cond b (Some new) (find (λ k. k.table == t) (perms_beside ks perms)))
+        ≡ option_map (λ k. k.rels) (cond b (Some k) (find (λ k. k.table == t) ks))
     by true rest = refl
     by false rest = rest
 

@@ -160,7 +160,10 @@ fn key_columns(
     column: Option<&Json>,
     columns: Option<&Json>,
 ) -> Result<ColList, MetaRefusal>
-    ensures { Gives (λ columns. columns) MetaRefusal.Memory (key_columns remote.now path.now (option_map (λ j. json_view j.now) column.entry) (option_map (λ j. json_view j.now) columns.entry)) result }
+    ensures { Gives (λ columns. columns) MetaRefusal.Memory
+          (key_columns remote.now path.now (option_map (λ j. json_view j.now) column.entry)
+             (option_map (λ j. json_view j.now) columns.entry))
+          result }
 {
     if let Some(json) = column {
         let path = at(alloc, path, Field::Column)?;

@@ -75,7 +75,10 @@ fn listed_rels(
     before: RelList,
     list: &[Json],
 ) -> Result<RelList, MetaRefusal>
-    ensures { Gives (λ rels. rels) MetaRefusal.Memory (each_after (λ before. rel_at scope.now.catalog.now.tables (meta_view scope.now.meta.now) table many) path.now 0 before (map json_view list.now)) result }
+    ensures { Gives (λ rels. rels) MetaRefusal.Memory
+          (each_after (λ before. rel_at scope.now.catalog.now.tables (meta_view scope.now.meta.now) table many) path.now 0 before
+             (map json_view list.now))
+          result }
 {
     let mut rels = before;
     for (place, json) in list.iter().enumerate() {

@@ -61,7 +61,10 @@ fn ask_due(
     operation: OpRef,
     variables: &VarValues,
 ) -> Result<Ask, RequestRefusal>
-    ensures { Gives ask_view RequestRefusal.Memory (ask_due (schema_view schema.now) catalog.now.tables (meta_view meta.now) session.now (document_view document.now) operation (map var_view variables.now)) result }
+    ensures { Gives ask_view RequestRefusal.Memory
+          (ask_due (schema_view schema.now) catalog.now.tables (meta_view meta.now) session.now (document_view document.now) operation
+             (map var_view variables.now))
+          result }
 {
     Ok(build(
         alloc, document, operation, variables, schema, catalog, meta, session,
@@ -78,7 +81,10 @@ pub(crate) fn operation_ask(
     body: &Json,
     document: &Document,
 ) -> Result<Ask, RequestRefusal>
-    ensures { Gives ask_view RequestRefusal.Memory (operation_ask (schema_view schema.now) catalog.now.tables (meta_view meta.now) session.now (json_view body.now) (document_view document.now)) result }
+    ensures { Gives ask_view RequestRefusal.Memory
+          (operation_ask (schema_view schema.now) catalog.now.tables (meta_view meta.now) session.now (json_view body.now)
+             (document_view document.now))
+          result }
 {
     let operation = operation_due(body, document)?;
     let variables = values_due(alloc, schema, body, document, operation)?;

@@ -56,7 +56,9 @@ with_within k p (c ∷ cs) h = h
 
 told_within : (k : TrackedTree) (o : Option PermTree) → Each (Within k) (permitted_columns (option_and_then (told_permission k) o))
 told_within k None = tt
-told_within k (Some p) = with_within k (record { columns = []; filter = p.filter; limit = p.limit; aggregations = p.aggregations; masks = [] }) _ (each_filter (Within k) (λ c. list_any (λ d. d == c) p.cols) (named_columns k) (all_within k))
+told_within k (Some p) =
+    with_within k (record { columns = []; filter = p.filter; limit = p.limit; aggregations = p.aggregations; masks = [] }) _
+      (each_filter (Within k) (λ c. list_any (λ d. d == c) p.cols) (named_columns k) (all_within k))
 
 permitted_within : (role : Role) (k : TrackedTree) → Each (Within k) (permitted_columns (permission_in role k))
 permitted_within Admin k = with_within k (record { columns = []; filter = always; limit = None; aggregations = true; masks = [] }) _ (all_within k)

@@ -101,7 +101,10 @@ module _ (tables : List Table) (m : MetaTree) (metadata_fits : fits tables m ≡
         subst (Each (Sorts from)) one.2 (record { uses = end.0; objects = end.1; short = short }, tt)
 
     -- one member, where its value is read as an entry
-    module _ (j : JsonTree) (entry_sorts : (rs : List ℕ) (p t : ℕ) → At types p (type.Sort t) → Leads rs from t → length rs + objects_nest j ≤ 177 → (ks : List SortKey) → entry_due j c rs p t ≡ Ok ks → Each (Sorts from) ks) where
+    module _ (j : JsonTree)
+      (entry_sorts : (rs : List ℕ) (p t : ℕ) → At types p (type.Sort t) → Leads rs from t → length rs + objects_nest j ≤ 177
+         → (ks : List SortKey) → entry_due j c rs p t ≡ Ok ks → Each (Sorts from) ks)
+      where
       through_sorts : (rs : List ℕ) (t r p : ℕ) (o : Option Rel) → a.rel t r ≡ o → (ty : TypeRefTree) → Reaches types ty (behind_one o type.Sort) → base ty ≡ p → Leads rs from t
           → suc (length rs) + objects_nest j ≤ 177 → (ks : List SortKey) → entry_due j c (rs ++ r ∷ []) p (rel s t r).remote ≡ Ok ks → Each (Sorts from) ks
       through_sorts rs t r p None is ty at place leads low ks e = absurd at
@@ -141,7 +144,8 @@ module _ (tables : List Table) (m : MetaTree) (metadata_fits : fits tables m ≡
           by (Some x) is e = origin_sorts rs t x.ty x.origin (input_found tables m role schemed p (type.Sort t) name x at is).reaches leads low ks e
 
     mutual
-      entry_sorts : (j : JsonTree) (rs : List ℕ) (p t : ℕ) → At types p (type.Sort t) → Leads rs from t → length rs + objects_nest j ≤ 177 → (ks : List SortKey) → entry_due j c rs p t ≡ Ok ks → Each (Sorts from) ks
+      entry_sorts : (j : JsonTree) (rs : List ℕ) (p t : ℕ) → At types p (type.Sort t) → Leads rs from t → length rs + objects_nest j ≤ 177
+        → (ks : List SortKey) → entry_due j c rs p t ≡ Ok ks → Each (Sorts from) ks
       entry_sorts null rs p t at leads low ks e = cc
       entry_sorts (bool b) rs p t at leads low ks e = cc
       entry_sorts (int n) rs p t at leads low ks e = cc
@@ -149,7 +153,8 @@ module _ (tables : List Table) (m : MetaTree) (metadata_fits : fits tables m ≡
       entry_sorts (arr js) rs p t at leads low ks e = cc
       entry_sorts (obj ms) rs p t at leads low ks e = members_sort ms rs p t at leads (omega (arith, low)) ks e
 
-      members_sort : (ms : MemberTrees) (rs : List ℕ) (p t : ℕ) → At types p (type.Sort t) → Leads rs from t → suc (length rs) + members_nest ms ≤ 177 → (ks : List SortKey) → members_due ms c rs p t ≡ Ok ks → Each (Sorts from) ks
+      members_sort : (ms : MemberTrees) (rs : List ℕ) (p t : ℕ) → At types p (type.Sort t) → Leads rs from t
+        → suc (length rs) + members_nest ms ≤ 177 → (ks : List SortKey) → members_due ms c rs p t ≡ Ok ks → Each (Sorts from) ks
       members_sort no_member rs p t at leads low ks e = let same : [] ≡ ks = cc in subst (Each (Sorts from)) same tt
       members_sort (member name j ms) rs p t at leads low ks e =
           let due = member_due (λ deeper q u. entry_due j c deeper q u) j c rs t (input_field_of R p name) in

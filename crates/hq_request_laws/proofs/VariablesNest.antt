@@ -35,7 +35,8 @@ number_nests : (o : Option _) → objects_nest (int_or_null o) ≤ 0
 number_nests None = omega arith
 number_nests (Some n) = omega arith
 
-with_element_nests : (o : Option JsonTree) (js : List JsonTree) (n m : ℕ) → ((x : JsonTree) → o ≡ Some x → objects_nest x ≤ n) → elements_nest (elements_of js) ≤ m → elements_nest (elements_of (with_element o js)) ≤ max n m
+with_element_nests : (o : Option JsonTree) (js : List JsonTree) (n m : ℕ) → ((x : JsonTree) → o ≡ Some x → objects_nest x ≤ n)
+  → elements_nest (elements_of js) ≤ m → elements_nest (elements_of (with_element o js)) ≤ max n m
 with_element_nests None js n m h k = omega arith
 with_element_nests (Some x) js n m h k = let first = h x refl in omega arith
 
@@ -124,14 +125,16 @@ checked_within n at required (Some j) x h e =
     elim [ true ↦ λ k. absurd cc | false ↦ λ k. let same : j ≡ x = cc in subst (λ y. objects_nest y ≤ n) same (h j refl) ] in
     go (required && is_null j) e
 
-value_within : (s : SchemaTree) (n at : ℕ) (required : Bool) (r : TypeRefTree) (given : Option JsonTree) (x : JsonTree) → Within n given → value_due s at required r given ≡ Ok (Some x) → objects_nest x ≤ n
+value_within : (s : SchemaTree) (n at : ℕ) (required : Bool) (r : TypeRefTree) (given : Option JsonTree) (x : JsonTree) → Within n given
+  → value_due s at required r given ≡ Ok (Some x) → objects_nest x ≤ n
 value_within s n at required r None x h e =
     let go : (b : Bool) → cond b (Err (refused at)) (Ok None) ≡ Ok (Some x) → objects_nest x ≤ n = elim [ true ↦ λ k. absurd cc | false ↦ λ k. absurd cc ] in
     go (is_non_null r) e
 value_within s n at required r (Some j) x h e =
     checked_within n at required (coerced s j r) x (λ y k. let top = h j refl in let below = coerced_nests s j r y k in omega arith) e
 
-known_within : (s : SchemaTree) (n at : ℕ) (required : Bool) (o : Option TypeRefTree) (given : Option JsonTree) (x : JsonTree) → Within n given → value_if_known s at required o given ≡ Ok (Some x) → objects_nest x ≤ n
+known_within : (s : SchemaTree) (n at : ℕ) (required : Bool) (o : Option TypeRefTree) (given : Option JsonTree) (x : JsonTree)
+  → Within n given → value_if_known s at required o given ≡ Ok (Some x) → objects_nest x ≤ n
 known_within s n at required None given x h e = absurd cc
 known_within s n at required (Some r) given x h e = value_within s n at required r given x h e
 
@@ -143,14 +146,17 @@ with_shallow : (n : ℕ) (name : List ℕ) (o : Option JsonTree) (vars : List Va
 with_shallow n name None vars h k = k
 with_shallow n name (Some j) vars h k = (h j refl, k)
 
-values_shallow : (s : SchemaTree) (required : List ℕ → Bool) (given : Option JsonTree) (n : ℕ) (defs : List VarDefTree) (vars : List VarTree) → Within n given → vars_nest defs ≤ n → values_due s required (given_members given) defs ≡ Ok vars → Shallow n vars
+values_shallow : (s : SchemaTree) (required : List ℕ → Bool) (given : Option JsonTree) (n : ℕ) (defs : List VarDefTree)
+    (vars : List VarTree)
+  → Within n given → vars_nest defs ≤ n → values_due s required (given_members given) defs ≡ Ok vars → Shallow n vars
 values_shallow s required given n [] vars h k e = let same : [] ≡ vars = cc in subst (Shallow n) same tt
 values_shallow s required given n (v ∷ vs) vars h k e =
     let p = then_ok (λ o. mapped (with_value v.name o) (values_due s required (given_members given) vs)) (variable_due s required (given_members given) v) vars e in
     let q = mapped_ok (with_value v.name p.0) (values_due s required (given_members given) vs) vars p.2 in
     let rest = values_shallow s required given n vs q.0 h (omega arith) q.1 in
     let one : Within n p.0 =
-    λ x same. known_within s n v.at (required v.name) (resolved s v.ty) (given_value (given_members given) v) x (given_within given v n h (omega arith)) (subst (λ o. variable_due s required (given_members given) v ≡ Ok o) same p.1) in
+    λ x same. known_within s n v.at (required v.name) (resolved s v.ty) (given_value (given_members given) v) x
+      (given_within given v n h (omega arith)) (subst (λ o. variable_due s required (given_members given) v ≡ Ok o) same p.1) in
     subst (Shallow n) q.2 (with_shallow n v.name p.0 q.0 one rest)
 
 -- the variables of an operation of a document nest as the document does
@@ -164,7 +170,8 @@ place_nests [] i d h = absurd cc
 place_nests (c ∷ ds) zero d h = let same : c ≡ d = cc in subst (λ x. definition_nest x ≤ max (definition_nest c) (document_nest ds)) same (omega arith)
 place_nests (c ∷ ds) (suc i) d h = let rest = place_nests ds i d h in omega arith
 
-pub variables_shallow : (s : SchemaTree) (d : DocumentTree) (op : ℕ) (given : Option JsonTree) (n : ℕ) (vars : List VarTree) → document_nest d ≤ n → Within n given → variables_due s d op given ≡ Ok vars → Shallow n vars
+pub variables_shallow : (s : SchemaTree) (d : DocumentTree) (op : ℕ) (given : Option JsonTree) (n : ℕ) (vars : List VarTree)
+  → document_nest d ≤ n → Within n given → variables_due s d op given ≡ Ok vars → Shallow n vars
 variables_shallow s d op given n vars h k e =
     values_shallow s (is_required s d op) given n (variables_of (operation_at d op)) vars k
     (operation_nests (slice_get d op) n (λ c is. let one = place_nests d op c is in omega arith)) e

@@ -46,7 +46,10 @@ alike_both fields at a b x y v =
 pub floor_from : (sets : List SetTree) (place : List ℕ → ℕ) (fields : List FieldTree) (floor : Option ℕ) → fields ≡ flat_map (λ x. x.fields) sets
     → All (λ f. IsAlikeAt fields (place f.key) f ⊎ AtMost floor f.at) fields → IsFloor sets floor
 floor_from sets place fields floor same all s t a b first second v =
-    let stands = λ (n : ℕ) (f : FieldTree) (h : Contains (fields_at sets n) f). All-contains (λ f. IsAlikeAt fields (place f.key) f ⊎ AtMost floor f.at) fields f all (subst (λ (fs : List FieldTree). Contains fs f) (sym same) (among_all sets n f h)) in
+    let stands =
+        λ (n : ℕ) (f : FieldTree) (h : Contains (fields_at sets n) f). All-contains
+          (λ f. IsAlikeAt fields (place f.key) f ⊎ AtMost floor f.at) fields f all
+          (subst (λ (fs : List FieldTree). Contains fs f) (sym same) (among_all sets n f h)) in
     (elim (stands s a first) [
       | inr low ↦ at_most_left floor a.at b.at low
       | inl x ↦

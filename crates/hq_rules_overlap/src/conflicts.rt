@@ -105,7 +105,10 @@ fn least_unlike(
     entries: &[Entry<'_>],
     places: &NamePlaces<'_>,
 ) -> Result<Option<u64>, Memory>
-    ensures { IfOk result (λ least. All (λ f. IsAlikeAt (map (entry_view (schema_view schema.now)) entries.now) (place_in places.now f.key) f ⊎ AtMost least f.at) (map (entry_view (schema_view schema.now)) entries.now)) }
+    ensures { IfOk result
+          (λ least. All
+             (λ f. IsAlikeAt (map (entry_view (schema_view schema.now)) entries.now) (place_in places.now f.key) f ⊎ AtMost least f.at)
+             (map (entry_view (schema_view schema.now)) entries.now)) }
 {
     let mut least = None;
     for entry in entries {

@@ -27,7 +27,9 @@ fn mark(marks: &mut Vec<bool>, number: usize)
 // Marks the numbers of some uses.
 fn mark_uses(marks: &mut Vec<bool>, uses: &[Use<'_>])
     ensures length { length marks.new.items ≡ length marks.old.items }
-    ensures marked { (n : ℕ) → n < length marks.old.items → slice_index_or marks.new.items n false ≡ (list_any (λ u. u.name == n) (map number_view uses.now) || slice_index_or marks.old.items n false) }
+    ensures marked { (n : ℕ) → n < length marks.old.items
+          → slice_index_or marks.new.items n false
+            ≡ (list_any (λ u. u.name == n) (map number_view uses.now) || slice_index_or marks.old.items n false) }
 {
     for found in uses {
         mark(&mut *marks, found.number);
@@ -37,7 +39,9 @@ fn mark_uses(marks: &mut Vec<bool>, uses: &[Use<'_>])
 // Marks the numbers of the uses in the definition at a place.
 fn mark_uses_at(marks: &mut Vec<bool>, all: &[Vec<Use<'_>>], at: usize)
     ensures length { length marks.new.items ≡ length marks.old.items }
-    ensures marked { (n : ℕ) → n < length marks.old.items → slice_index_or marks.new.items n false ≡ (list_any (λ u. u.name == n) (uses_at (numbers_view all.now) at) || slice_index_or marks.old.items n false) }
+    ensures marked { (n : ℕ) → n < length marks.old.items
+          → slice_index_or marks.new.items n false
+            ≡ (list_any (λ u. u.name == n) (uses_at (numbers_view all.now) at) || slice_index_or marks.old.items n false) }
 {
     match all.get(at) {
         Some(uses) => mark_uses(&mut *marks, uses),

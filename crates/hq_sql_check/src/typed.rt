@@ -209,7 +209,11 @@ fn is_pattern(alloc: Global, value: &Expr) -> Result<bool, Memory>
 // Whether a text is compared with a pattern.
 #[inline(never)]
 fn is_like(alloc: Global, scope: &Scope<'_, '_>, left: &Expr, right: &Expr) -> Result<bool, Memory>
-    ensures { IfOk result (λ well. well ≡ (is_compared (scope_view scope.now) (expr_view left.now) && is_text_kind (kind (scope_view scope.now) (expr_view left.now)) && is_pattern (expr_view right.now))) }
+    ensures { IfOk result
+          (λ well. well
+             ≡
+               (is_compared (scope_view scope.now) (expr_view left.now) && is_text_kind (kind (scope_view scope.now) (expr_view left.now))
+                  && is_pattern (expr_view right.now))) }
 {
     Ok(is_compared(alloc, scope, left)? && is_text(kind(scope, left)) && is_pattern(alloc, right)?)
 }

@@ -40,7 +40,9 @@ fn split_all<'d>(
     closed: &mut Vec<&'d Pred>,
     rest: &mut Vec<&'d Pred>,
 ) -> Result<(), Memory>
-    ensures { OnOk result (IsSplit (names_view names.now) (kept_all (map pred_view preds.now.items)) (total (map pred_weight preds.now.items)) closed.old.items rest.old.items closed.new.items rest.new.items) }
+    ensures { OnOk result
+          (IsSplit (names_view names.now) (kept_all (map pred_view preds.now.items)) (total (map pred_weight preds.now.items))
+             closed.old.items rest.old.items closed.new.items rest.new.items) }
 {
     for pred in preds {
         split(pred, names, closed, rest)?;

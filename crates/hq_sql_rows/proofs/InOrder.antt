@@ -44,7 +44,8 @@ key_cells nulls_first a b e f =
     ap₂ (λ m n. ordering_then (nat_cmp m n) (cell_cmp a b)) (null_rank_of nulls_first a e) (null_rank_of nulls_first b f) ∙ same nulls_first
 
 -- the first column of a name is a sort key
-pub key_is : (columns : List Column) (at : ℕ) (alias name : List ℕ) (o : OrderTree) → o.desc ≡ false → position (λ c. bytes_eq c.name name) columns ≡ Some at → is_column alias name o.value ≡ true → IsKey columns alias at o
+pub key_is : (columns : List Column) (at : ℕ) (alias name : List ℕ) (o : OrderTree) → o.desc ≡ false
+  → position (λ c. bytes_eq c.name name) columns ≡ Some at → is_column alias name o.value ≡ true → IsKey columns alias at o
 key_is columns at alias name o ascends first is =
     record {
       ascends = ascends;
@@ -55,14 +56,17 @@ pub orders_none : (columns : List Column) (alias : List ℕ) → OrdersBy column
 orders_none columns alias = record { orders = λ row other m n here there whole all. refl }
 
 -- one key more in front
-pub orders_more : (columns : List Column) (alias : List ℕ) (c : ℕ) (cs : List ℕ) (o : OrderTree) (os : List OrderTree) → IsKey columns alias c o → OrdersBy columns alias cs os → OrdersBy columns alias (c ∷ cs) (o ∷ os)
+pub orders_more : (columns : List Column) (alias : List ℕ) (c : ℕ) (cs : List ℕ) (o : OrderTree) (os : List OrderTree)
+  → IsKey columns alias c o → OrdersBy columns alias cs os → OrdersBy columns alias (c ∷ cs) (o ∷ os)
 orders_more columns alias c cs o os key rest =
     record {
       orders = λ row other m n here there whole all.
           let first = or_parts (null_test (cell_in row c)) (has_null (key_in cs row)) whole in
           let second = or_parts (null_test (cell_in other c)) (has_null (key_in cs other)) all in
           ap₂ ordering_then
-          (ap₂ (λ a b. key_cmp o.desc o.nulls_first a b) (key.cell row m here) (key.cell other n there) ∙ ap (λ d. key_cmp d o.nulls_first (cell_in row c) (cell_in other c)) key.ascends ∙ key_cells o.nulls_first (cell_in row c) (cell_in other c) first.0 second.0)
+          (ap₂ (λ a b. key_cmp o.desc o.nulls_first a b) (key.cell row m here) (key.cell other n there)
+             ∙ ap (λ d. key_cmp d o.nulls_first (cell_in row c) (cell_in other c)) key.ascends
+             ∙ key_cells o.nulls_first (cell_in row c) (cell_in other c) first.0 second.0)
           (rest.orders row other m n here there first.1 second.1);
     }
 
@@ -102,7 +106,9 @@ module _ (columns : List Column) (rows : List Row) (js : JoinTrees) (w : World) 
   each_block alone p =
       let r = get_or (map (named_row columns) rows) p [] in
       each_filter (IsAt p) keeps (joined js w (with_alias n a r))
-      (each_weaken (Keeps js (with_alias n a r)) (IsAt p) (λ m around. around a alone ∙ (ap (λ b. cond b r (n a)) (same_bytes a) ∙ sym (stored_row columns rows p))) (joined js w (with_alias n a r)) (joined_keeps js w (with_alias n a r)))
+      (each_weaken (Keeps js (with_alias n a r)) (IsAt p)
+         (λ m around. around a alone ∙ (ap (λ b. cond b r (n a)) (same_bytes a) ∙ sym (stored_row columns rows p)))
+         (joined js w (with_alias n a r)) (joined_keeps js w (with_alias n a r)))
 
   -- what WHERE keeps of the rows in the order of an index is what it keeps of all of them, sorted
   pub ordered_is : (os : List OrderTree) (index : Index) → HasOrder columns rows a os index → is_joined js a ≡ false

@@ -237,7 +237,10 @@ pub fn asked_key<'d>(
     pred: &'d Pred,
     scope: &Scope<'_, 'd>,
 ) -> Result<Option<Vec<KeyCell<'d>>>, Memory>
-    ensures { IfOk result (λ found. IfSome found (λ key. AsksKey table.now.columns columns.now alias.now (joins_of (map join_view joins.now)) (pred_view pred.now) scope.now (map key_view key.items))) }
+    ensures { IfOk result
+          (λ found. IfSome found
+             (λ key. AsksKey table.now.columns columns.now alias.now (joins_of (map join_view joins.now)) (pred_view pred.now) scope.now
+                (map key_view key.items))) }
 {
     let mut key = Vec::with_capacity(alloc, columns.len())?;
     for column in columns {

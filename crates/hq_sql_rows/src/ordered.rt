@@ -104,7 +104,10 @@ fn index_in_order<'s, 'd>(
     joins: &[Join],
     order: &[Order],
 ) -> Option<&'d Index>
-    ensures { IfSome result (λ index. (scope : InScope) (f : FilterTree) → FindsArranged (joins_of (map join_view joins.now)) scope alias.now f [] (map order_view order.now) source.entry (rows_at source.entry (Ordered index))) }
+    ensures { IfSome result
+          (λ index. (scope : InScope) (f : FilterTree)
+             → FindsArranged (joins_of (map join_view joins.now)) scope alias.now f [] (map order_view order.now) source.entry
+               (rows_at source.entry (Ordered index))) }
 {
     if is_joined(joins, alias) {
         return None;

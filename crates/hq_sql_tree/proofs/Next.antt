@@ -45,7 +45,8 @@ next_order os i o lt is =
     ∙ ap (λ (seen : OrderTree). tree.order seen.value seen.desc seen.nulls_first (orders_of (map order_view (drop (i + 1) os)))) (view_order o)
 
 -- a pair of those that are left
-pub next_pair : (ps : List ExprPair) (i : ℕ) (p : ExprPair) → i < length ps → p ≡ get_or ps i p → pairs_of (map pair_view (drop i ps)) ≡ tree.pair p.name (expr_view p.value) (pairs_of (map pair_view (drop (i + 1) ps)))
+pub next_pair : (ps : List ExprPair) (i : ℕ) (p : ExprPair) → i < length ps → p ≡ get_or ps i p
+  → pairs_of (map pair_view (drop i ps)) ≡ tree.pair p.name (expr_view p.value) (pairs_of (map pair_view (drop (i + 1) ps)))
 next_pair ps i p lt is =
     ap (λ xs. pairs_of (map pair_view xs)) (next_item ps i p lt is)
     ∙ ap (λ (seen : PairTree). tree.pair seen.name seen.value (pairs_of (map pair_view (drop (i + 1) ps)))) (view_pair p)
@@ -58,13 +59,16 @@ at_end F xs i v whole none over so_far = sym (at_drop_all F xs i over ∙ none) 
 pub all_pass : {A B : Type 0} (p : B → Bool) (view : A → B) (xs : List A) (i : ℕ) (x : A) → i < length xs → x ≡ get_or xs i x
     → list_all p (map view (drop i xs)) ≡ list_all p (map view xs) → p (view x) ≡ true → list_all p (map view (drop (i + 1) xs)) ≡ list_all p (map view xs)
 all_pass p view xs i x lt is so_far holds =
-    passes (p (view x)) (list_all p (map view (drop (i + 1) xs))) (list_all p (map view (drop i xs))) (list_all p (map view xs)) (ap (λ ys. list_all p (map view ys)) (next_item xs i x lt is)) so_far holds
+    passes (p (view x)) (list_all p (map view (drop (i + 1) xs))) (list_all p (map view (drop i xs))) (list_all p (map view xs))
+      (ap (λ ys. list_all p (map view ys)) (next_item xs i x lt is)) so_far holds
 
 -- and where it fails, all do
 pub all_fail : {A B : Type 0} (p : B → Bool) (view : A → B) (xs all : List A) (i : ℕ) (x : A) → xs ≡ all → i < length xs → x ≡ get_or xs i x
     → list_all p (map view (drop i xs)) ≡ list_all p (map view xs) → p (view x) ≡ false → false ≡ list_all p (map view all)
 all_fail p view xs all i x same lt is so_far holds =
-    fails (p (view x)) (list_all p (map view (drop (i + 1) xs))) (list_all p (map view (drop i xs))) (list_all p (map view xs)) (ap (λ ys. list_all p (map view ys)) (next_item xs i x lt is)) so_far holds ∙ ap (λ ys. list_all p (map view ys)) same
+    fails (p (view x)) (list_all p (map view (drop (i + 1) xs))) (list_all p (map view (drop i xs))) (list_all p (map view xs))
+        (ap (λ ys. list_all p (map view ys)) (next_item xs i x lt is)) so_far holds
+      ∙ ap (λ ys. list_all p (map view ys)) same
 
 -- the greater of two is within where both are
 pub max_within : (a b n : ℕ) → nat_le (max a b) n ≡ (nat_le a n && nat_le b n)

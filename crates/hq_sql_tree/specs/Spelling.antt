@@ -130,7 +130,11 @@ abbrev mutual
   select_text (tree.rows distinct outs from joins condition keys limit offset) =
       word_text word.Select ++ (distinct_text distinct ++ (separated word.Comma (map out_text outs) ++ (word_text word.From ++ (from_text from ++ (each_after word.LateralJoin (join_texts joins)
       ++ (filter_text condition ++ (clause_text word.OrderBy word.Comma (map order_text keys) ++ (number_text word.Limit limit ++ number_text word.Offset offset))))))))
-  select_text (tree.fold out inner alias) = word_text word.Select ++ (out_text out ++ (word_text word.From ++ (word_text word.Open ++ (select_text inner ++ (word_text word.CloseAs ++ name_text alias)))))
+  select_text (tree.fold out inner alias) =
+      word_text word.Select
+        ++
+          (out_text out
+             ++ (word_text word.From ++ (word_text word.Open ++ (select_text inner ++ (word_text word.CloseAs ++ name_text alias)))))
 
   pub from_text : FromTree → List ℕ
   from_text (tree.table schema name alias) = name_text schema ++ (word_text word.Dot ++ (name_text name ++ (word_text word.As ++ name_text alias)))

@@ -16,4 +16,6 @@ collect-returns t c =
     let r = request_seen c.args.request.now in
     sym (collect_some c.args.levels (c.args.levels - 1) r (map selection_view c.args.selections.now) (seen c.args.collected.now) more
     ∙ c.loop-selection.invariant
-    ∙ at_drop_all (λ (xs : List Selection). collect_each (collect (c.args.levels - 1) r) r (map selection_view xs) (seen c.loop-selection.collected)) c.args.selections.now c.loop-selection.selection-index c.loop-selection-test.false)
+    ∙ at_drop_all
+      (λ (xs : List Selection). collect_each (collect (c.args.levels - 1) r) r (map selection_view xs) (seen c.loop-selection.collected))
+      c.args.selections.now c.loop-selection.selection-index c.loop-selection-test.false)

@@ -8,4 +8,6 @@ use Rattle.hq_compile_lists.proofs.sorts.push_distinct.Goals as goal
 pub loop-column-preserved : goal.loop-column-preserved
 loop-column-preserved c =
     let rest = λ (columns : List ℕ). shown_sorts (ascending columns) [] in
-    viewed_rest-more row_sort_view rest rest c.args.columns.now c.loop-column.column-index c.column-item.result c.loop-column.sorts c.push.new.self c.column_sort.result _ _ c.loop-column.invariant c.loop-column-test.true c.column-item.is refl c.column_sort.ensures c.in_ok-push.ensures.ok
+    viewed_rest-more row_sort_view rest rest c.args.columns.now c.loop-column.column-index c.column-item.result c.loop-column.sorts
+      c.push.new.self c.column_sort.result _ _ c.loop-column.invariant c.loop-column-test.true c.column-item.is refl c.column_sort.ensures
+      c.in_ok-push.ensures.ok

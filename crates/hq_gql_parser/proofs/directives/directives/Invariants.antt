@@ -9,7 +9,9 @@ use Rattle.hq_gql_parser.proofs.Loops.{IsParsed}
 use Rattle.hq_gql_parser.proofs.directives.directives.Given as goal
 
 abbrev pub invariant-loop-alloc : goal.invariant-loop-alloc
-invariant-loop-alloc l = IsParsed (is_at (ahead.Punct At)) (directive_at l.constant l.depth) (map directive_view l.found.items) l.rest (all (is_at (ahead.Punct At)) (directive_at l.constant l.depth) l.tokens)
+invariant-loop-alloc l =
+    IsParsed (is_at (ahead.Punct At)) (directive_at l.constant l.depth) (map directive_view l.found.items) l.rest
+      (all (is_at (ahead.Punct At)) (directive_at l.constant l.depth) l.tokens)
 
 abbrev pub decreases-loop-alloc : goal.decreases-loop-alloc
 decreases-loop-alloc l = length l.rest

@@ -7,7 +7,9 @@ use Rattle.hq_meta_read.proofs.linking.pairs_of.Goals as goal
 pub loop-place-preserved : goal.loop-place-preserved
 loop-place-preserved c =
     let remote = c.args.remote.now in
-    let there = slice_get_read remote (length remote) c.loop-place.place c.in-Some.remote.now refl (ltb-true c.loop-place.place (length remote) (sym c.in-Some.ensures.lookup.0)) c.in-Some.ensures.lookup.1 in
+    let there =
+        slice_get_read remote (length remote) c.loop-place.place c.in-Some.remote.now refl
+          (ltb-true c.loop-place.place (length remote) (sym c.in-Some.ensures.lookup.0)) c.in-Some.ensures.lookup.1 in
     c.in_ok-push.ensures.ok ∙ ap (λ ps. ps ++ pair c.index-own-place.result c.in-Some.remote.now ∷ []) c.loop-place.invariant
     ∙ sym (pairs_more c.args.own.now remote c.loop-place.place c.index-own-place.result c.in-Some.remote.now c.loop-place-test.true c.index-own-place.is there)
 

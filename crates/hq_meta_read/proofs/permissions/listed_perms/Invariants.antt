@@ -11,6 +11,8 @@ use Rattle.hq_meta_read.proofs.permissions.listed_perms.Given as goal
 abbrev pub invariant-loop-place : goal.invariant-loop-place
 invariant-loop-place l =
     record {
-      due : each_after (perm_at l.scope.catalog.now.tables (meta_view l.scope.meta.now) l.table) l.path l.place (map perm_view l.perms) (map json_view (drop l.place l.list)) ≡ each_after (perm_at l.scope.catalog.now.tables (meta_view l.scope.meta.now) l.table) l.path 0 [] (map json_view l.list);
+      due : each_after (perm_at l.scope.catalog.now.tables (meta_view l.scope.meta.now) l.table) l.path l.place (map perm_view l.perms)
+          (map json_view (drop l.place l.list))
+        ≡ each_after (perm_at l.scope.catalog.now.tables (meta_view l.scope.meta.now) l.table) l.path 0 [] (map json_view l.list);
       sound : AllSound (schema_of l.scope.catalog.now.tables (meta_view l.scope.meta.now)) l.table (map perm_view l.perms);
     }

@@ -14,5 +14,8 @@ returns-clause-sound c =
     let below = IfOk-at_ok (λ v. nesting v ≤ nesting object) c.in_ok-written.ensures (member_at-nests c.args.path.now object field.Filter) in
     record {
       is = rw c.into_inner.ensures c.in_ok-filter.ensures.is;
-      shallow = rw c.into_inner.ensures (shallow_filter (depth (bexp_view c.in_ok-filter.filter.value)) (nesting (json_view c.in_ok-written.written.now)) (nesting object) c.in_ok-filter.ensures.shallow below c.requires);
+      shallow =
+          rw c.into_inner.ensures
+            (shallow_filter (depth (bexp_view c.in_ok-filter.filter.value)) (nesting (json_view c.in_ok-written.written.now))
+               (nesting object) c.in_ok-filter.ensures.shallow below c.requires);
     }

@@ -25,5 +25,7 @@ loop-definition-preserved c =
     let inner = map (set_view s) c.loop-definition.sets.items in
     record {
       own = roots_more s places first n m x more made.length own _ _ made.roots (ap (λ (ds : List Definition). own ++ roots s places (first + n) (map definition_view ds)) (sym behind) ∙ loop.own);
-      inner = below_roots_more s places first n m x more made.length inner _ _ made.sets (ap (λ (ds : List Definition). inner ++ below_roots s places (first + n) (map definition_view ds)) (sym behind) ∙ loop.inner);
+      inner =
+          below_roots_more s places first n m x more made.length inner _ _ made.sets
+            (ap (λ (ds : List Definition). inner ++ below_roots s places (first + n) (map definition_view ds)) (sym behind) ∙ loop.inner);
     }

@@ -7,5 +7,7 @@ use Rattle.hq_rules_reach.proofs.no_unused_variables.mark_uses.Given as goal
 abbrev pub invariant-loop-found : goal.invariant-loop-found
 invariant-loop-found l = record {
   as_long : length l.marks.items ≡ length l.initial.marks.items;
-  marked : (n : ℕ) → n < length l.initial.marks.items → get_or l.marks.items n false ≡ (list_any (λ u. u.name == n) (map number_view (take l.found-index l.uses)) || get_or l.initial.marks.items n false);
+  marked : (n : ℕ) → n < length l.initial.marks.items
+    → get_or l.marks.items n false
+      ≡ (list_any (λ u. u.name == n) (map number_view (take l.found-index l.uses)) || get_or l.initial.marks.items n false);
 }

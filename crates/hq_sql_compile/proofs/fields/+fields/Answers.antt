@@ -33,7 +33,8 @@ list_join-returns-clause-join t c =
     let joins = c.in_ok-push_fields.ensures.joins ∙ ap (λ (js : List Join). map join_view js ++ fields_joins fs s g u n m) c.empty_row-row.ensures.joins in
     IfOk-weaker c.one_join.result _ _
     (λ join is. ap (λ (j : JoinTree). j ∷ []) is
-    ∙ list_join s c.args.context.now.granted.now (start_origin l) (arguments_view l.args.now) fs l.row_table l.row_number u n m c.args.next.now (pred_view c.in_ok-tie.tie) (body_view c.in_ok-body.body)
+    ∙ list_join s c.args.context.now.granted.now (start_origin l) (arguments_view l.args.now) fs l.row_table l.row_number u n m
+      c.args.next.now (pred_view c.in_ok-tie.tie) (body_view c.in_ok-body.body)
     (row_view c.push_fields.new.row) (select_view c.in_ok-select.select) c.list_table-table.ensures c.in_ok-n.ensures.taken c.in_ok-tie.ensures c.in_ok-body.ensures.body c.in_ok-body.ensures.numbers
     pairs joins c.in_ok-select.ensures)
     c.one_join.ensures
@@ -63,7 +64,9 @@ push_fields-loop-keyed-preserved t c =
       joins = rest-more (λ (ks : List KeyedAskField). fields_joins (fields_view ks) s g u p n) (λ (ks : List KeyedAskField). fields_joins (fields_view ks) s g u p m) items i k
           (map join_view old.joins.items) (map join_view new.joins.items) (field_joins f.1 s g u p n) _ c.loop-keyed.invariant.joins c.loop-keyed-test.true c.keyed-item.is
           (ap (λ (j : ℕ). field_joins f.1 s g u p n ++ fields_joins rest s g u p j) behind) c.in_ok-push_field.ensures.joins;
-      numbers = count-more (λ (ks : List KeyedAskField). fields_numbers (fields_view ks) s g u) items i k n m (field_numbers f.1 s g u) _ c.loop-keyed.invariant.numbers c.loop-keyed-test.true c.keyed-item.is
+      numbers =
+          count-more (λ (ks : List KeyedAskField). fields_numbers (fields_view ks) s g u) items i k n m (field_numbers f.1 s g u) _
+            c.loop-keyed.invariant.numbers c.loop-keyed-test.true c.keyed-item.is
           refl c.in_ok-push_field.ensures.numbers;
     }
 
@@ -91,9 +94,13 @@ push_parts-loop-keyed-preserved t c =
       pairs = rest-more (λ (ks : List KeyedAggPart). parts_values (parts_view ks) s g u a n) (λ (ks : List KeyedAggPart). parts_values (parts_view ks) s g u a m) items i k
           (map pair_view old.pairs.items) (map pair_view new.pairs.items) (pair ∷ []) _ c.loop-keyed.invariant.pairs c.loop-keyed-test.true c.keyed-item.is
           (ap (λ (j : ℕ). pair ∷ parts_values rest s g u a j) behind) c.in_ok-push_part.ensures.pairs;
-      joins = rest-more (λ (ks : List KeyedAggPart). parts_joins (parts_view ks) s g o l.row_table l.row_number a n) (λ (ks : List KeyedAggPart). parts_joins (parts_view ks) s g o l.row_table l.row_number a m) items i k
+      joins =
+          rest-more (λ (ks : List KeyedAggPart). parts_joins (parts_view ks) s g o l.row_table l.row_number a n)
+            (λ (ks : List KeyedAggPart). parts_joins (parts_view ks) s g o l.row_table l.row_number a m) items i k
           (map join_view old.joins.items) (map join_view new.joins.items) (part_joins q.1 s g o l.row_table l.row_number a n) _ c.loop-keyed.invariant.joins c.loop-keyed-test.true c.keyed-item.is
           (ap (λ (j : ℕ). part_joins q.1 s g o l.row_table l.row_number a n ++ parts_joins rest s g o l.row_table l.row_number a j) behind) c.in_ok-push_part.ensures.joins;
-      numbers = count-more (λ (ks : List KeyedAggPart). parts_numbers (parts_view ks) s g u a) items i k n m (part_numbers q.1 s g u a) _ c.loop-keyed.invariant.numbers c.loop-keyed-test.true c.keyed-item.is
+      numbers =
+          count-more (λ (ks : List KeyedAggPart). parts_numbers (parts_view ks) s g u a) items i k n m (part_numbers q.1 s g u a) _
+            c.loop-keyed.invariant.numbers c.loop-keyed-test.true c.keyed-item.is
           refl c.in_ok-push_part.ensures.numbers;
     }

@@ -16,4 +16,5 @@ returns-then-not-is_expr c =
     let items = c.deref-expr-items.result.now in
     let i = c.loop-expr.expr-index in
     let within : i < length items = omega arith in
-    all_fail is_expr expr_view items c.args.exprs.now.items i c.expr-item.result c.deref-expr-items.ensures.value within c.expr-item.is c.loop-expr.invariant (sym c.is_expr.ensures ∙ c.if-not-is_expr.true)
+    all_fail is_expr expr_view items c.args.exprs.now.items i c.expr-item.result c.deref-expr-items.ensures.value within c.expr-item.is
+      c.loop-expr.invariant (sym c.is_expr.ensures ∙ c.if-not-is_expr.true)

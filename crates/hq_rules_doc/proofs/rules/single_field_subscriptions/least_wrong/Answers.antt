@@ -8,4 +8,6 @@ use Rattle.hq_rules_doc.proofs.rules.single_field_subscriptions.least_wrong.Goal
 pub loop-at-preserved : goal.loop-at-preserved
 loop-at-preserved c =
     c.earlier-least.ensures
-    ∙ least_more (subscription_at (graph_view c.args.graph.now) (document_view c.args.document.now)) c.args.document.now.definitions.items c.loop-at.at c.definition-item.result c.loop-at.least c.in_ok-place.place (omega arith) (search rules) c.loop-at.invariant c.in_ok-place.ensures
+    ∙ least_more (subscription_at (graph_view c.args.graph.now) (document_view c.args.document.now)) c.args.document.now.definitions.items
+      c.loop-at.at c.definition-item.result c.loop-at.least c.in_ok-place.place (omega arith) (search rules) c.loop-at.invariant
+      c.in_ok-place.ensures
