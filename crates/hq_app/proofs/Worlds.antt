@@ -22,14 +22,14 @@ use Rattle.hq_commands.specs.declared.refusal.Refusal.{Refusal}
 
 -- equal replies are equal outputs
 output_same : (tables : List Table) (meta : MetaTree) (session : Session) (d e : List (List Row)) (made : Result AskTree RequestRefusal)
-  → reply_to tables meta session d made ≡ reply_to tables meta session e made
+    → reply_to tables meta session d made ≡ reply_to tables meta session e made
     → reply_output tables meta session (Some d) made ≡ reply_output tables meta session (Some e) made
 output_same tables meta session d e (Ok ask) same = ap (λ (bytes : Option (List ℕ)). Ok (record { done = Answered; bytes = bytes })) same
 output_same tables meta session d e (Err (Fault f)) same = refl
 output_same tables meta session d e (Err Memory) same = refl
 
 pub outputs_agree : (tables : List Table) (meta : MetaTree) (session : Session) (text : List ℕ) (d e : List (List Row))
-  → RepliesAgree tables meta session text d e → OutputsAgree tables meta session text d e
+    → RepliesAgree tables meta session text d e → OutputsAgree tables meta session text d e
 outputs_agree tables meta session text d e replies catalog fit agree =
     ap (within_limit text) (output_same tables meta session d e (request_due tables meta session text) (replies catalog fit agree))
 
@@ -47,7 +47,7 @@ answers_alike engine session (Some d) text old new before now answer worlds is =
 -- where the input is told
 pub told_alike : (engine : Engine) (session : Session) (database : Option (List (List Row))) (left : Option (List ℕ)) (old new : Option (List ℕ)) (before now : Counts) (answer : Answer)
     → ((text : List ℕ) (d e : List (List Row)) → OutputsAgree engine.catalog.tables (meta_view engine.meta) session text d e)
-      → IfSome left (λ text. Answers engine session database text old new before now answer)
+    → IfSome left (λ text. Answers engine session database text old new before now answer)
     → IfSome left (λ text. AnswersAlike engine session database text old new before now answer)
 told_alike engine session database None old new before now answer worlds told = tt
 told_alike engine session database (Some text) old new before now answer worlds told = answers_alike engine session database text old new before now answer (worlds text) told

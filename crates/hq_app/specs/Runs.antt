@@ -26,7 +26,7 @@ pub record Outside (L : Type 0) : Type 0 where
   pub door : SeenDoor L
 
 abbrev pub outside : {L : Type 0} → (folder : Option (List File)) → (file_faults : ℕ) → (left : Option (List ℕ)) → (input_faults : ℕ)
-  → (written : Option (List ℕ)) → (out_faults : ℕ) → SeenDoor L → Outside L
+    → (written : Option (List ℕ)) → (out_faults : ℕ) → SeenDoor L → Outside L
 outside folder file_faults left input_faults written out_faults door = record {
   files = record { told = folder; faults = file_faults };
   input = record { told = left; faults = input_faults };

@@ -9,7 +9,7 @@ use Rattle.hq_arguments.specs.Context.{Context}
 use Rattle.hq_arguments.specs.Reading.{each, misfit}
 
 pub of_object : (x : Context) (p c : ℕ) (ty : Ty) (j : JsonTree) (ms : List (List ℕ × JsonTree)) → object_in j ≡ Some ms
-  → comparisons_due x p c ty j ≡ mapped conjunction (each (named_due x p c ty) ms)
+    → comparisons_due x p c ty j ≡ mapped conjunction (each (named_due x p c ty) ms)
 of_object x p c ty null ms e = cc
 of_object x p c ty (bool b) ms e = cc
 of_object x p c ty (int n) ms e = cc

@@ -42,7 +42,7 @@ fn where_of(
     t: TableId,
 ) -> Result<Box<Bexp>, ArgRefusal>
     ensures { let c = context_view context.now in Gives (λ b. bexp_view b.value) refusal.Memory
-          (where_due c t (given_named c (map arg_view args.now) (map argument_view arguments.now) (codes "where"))) result }
+        (where_due c t (given_named c (map arg_view args.now) (map argument_view arguments.now) (codes "where"))) result }
 {
     let given = given_named(alloc, context, args, arguments, "where")?;
     let filter = where_filter(alloc, context, t, given)?;
@@ -58,7 +58,7 @@ fn order_by_of(
     t: TableId,
 ) -> Result<SortList, ArgRefusal>
     ensures { let c = context_view context.now in Gives (map sort_view) refusal.Memory
-          (order_by_due c t (given_named c (map arg_view args.now) (map argument_view arguments.now) (codes "order_by"))) result }
+        (order_by_due c t (given_named c (map arg_view args.now) (map argument_view arguments.now) (codes "order_by"))) result }
 {
     let given = given_named(alloc, context, args, arguments, "order_by")?;
     order_by(alloc, context, t, given)
@@ -86,9 +86,9 @@ fn distinct_on_of(
     sorts: &[Sort],
 ) -> Result<ColList, ArgRefusal>
     ensures { let c = context_view context.now in Gives (λ cs. cs) refusal.Memory
-          (distinct_due c (map sort_view sorts.now)
-             (given_named c (map arg_view args.now) (map argument_view arguments.now) (codes "distinct_on")))
-          result }
+        (distinct_due c (map sort_view sorts.now)
+        (given_named c (map arg_view args.now) (map argument_view arguments.now) (codes "distinct_on")))
+        result }
 {
     let given = given_named(alloc, context, args, arguments, "distinct_on")?;
     distinct_on(alloc, context, sorts, given)
@@ -167,7 +167,7 @@ fn type_name(
     arguments: &[Argument],
 ) -> Result<FieldArgs, ArgRefusal>
     ensures { let c = context_view context.now in Gives field_args_view refusal.Memory
-          (mapped type_name (text_due (given_named c (map arg_view args.now) (map argument_view arguments.now) (codes "name")))) result }
+        (mapped type_name (text_due (given_named c (map arg_view args.now) (map argument_view arguments.now) (codes "name")))) result }
 {
     let given = given_named(alloc, context, args, arguments, "name")?;
     let name = text(alloc, given)?;

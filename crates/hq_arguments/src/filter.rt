@@ -128,7 +128,7 @@ fn filter_by(
     json: &Json,
 ) -> Result<Bexp, ArgRefusal>
     ensures { let c = context_view context.now in let j = json_view json.now in Gives bexp_view refusal.Memory
-          (by_origin (λ q u. filter_due j c q u) (λ q. filters_due j c q t) j c t p origin) result }
+        (by_origin (λ q u. filter_due j c q u) (λ q. filters_due j c q t) j c t p origin) result }
 {
     match origin {
         ArgOrigin::And => Ok(Bexp::And(filters(alloc, context, p, t, json)?)),

@@ -180,7 +180,7 @@ fn with_origin(
     json: &Json,
 ) -> Result<Vec<Sort>, ArgRefusal>
     ensures { let c = context_view context.now in let j = json_view json.now in Gives sorts_view refusal.Memory
-          (behind (sorts_view sorts) (by_origin (λ deeper q u. entry_due j c deeper q u) j c through.now t p origin)) result }
+        (behind (sorts_view sorts) (by_origin (λ deeper q u. entry_due j c deeper q u) j c through.now t p origin)) result }
 {
     match origin {
         ArgOrigin::Column(col) => with_sort(alloc, sorts, through, col, json),

@@ -30,8 +30,8 @@ any_append : (x t : ℕ) (us : List ℕ) → list_any (nat_eq x) (us ++ t ∷ []
 any_append x t [] = let go : (b : Bool) → (b || false) ≡ b = elim [ true ↦ refl | false ↦ refl ] in go (nat_eq x t)
 any_append x t (u ∷ us) =
     let go : (b : Bool)
-      → (b || list_any (nat_eq x) (us ++ t ∷ []))
-        ≡ ((b || list_any (nat_eq x) us) || nat_eq x t) = elim [ true ↦ refl | false ↦ any_append x t us ] in go (nat_eq x u)
+    → (b || list_any (nat_eq x) (us ++ t ∷ []))
+    ≡ ((b || list_any (nat_eq x) us) || nat_eq x t) = elim [ true ↦ refl | false ↦ any_append x t us ] in go (nat_eq x u)
 
 swap : (x y : ℕ) → (x == y) ≡ (y == x)
 swap x y =

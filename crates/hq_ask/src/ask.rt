@@ -88,7 +88,7 @@ fn introspect(
     type_name: Option<Txt>,
 ) -> Result<AskField, CoerceRefusal>
     ensures { let f = parts_seen field.now in Gives field_view refusal.Memory
-          (mapped (λ fs. introspect (look f.head.name type_name false fs)) (looks_due (context_view context.now) to t f.below)) result }
+        (mapped (λ fs. introspect (look f.head.name type_name false fs)) (looks_due (context_view context.now) to t f.below)) result }
 {
     let fields = ask_looks(alloc, context, to, t, &field.below)?;
     let field = look_of(alloc, field, type_name, false, fields)?;
@@ -217,9 +217,9 @@ fn ask_aggregate(
     field: &CollectedField<'_>,
 ) -> Result<AskField, CoerceRefusal>
     ensures { Gives field_view refusal.Memory
-          (mapped (aggregate (origin_of table rel) (arguments_view args.value))
-             (parts_due (context_view context.now) to table (parts_seen field.now).below))
-          result }
+        (mapped (aggregate (origin_of table rel) (arguments_view args.value))
+        (parts_due (context_view context.now) to table (parts_seen field.now).below))
+        result }
 {
     let parts = parts_below(alloc, context, to, table, field)?;
     Ok(aggregate(table, rel, Box::into_inner(args), parts))

@@ -74,9 +74,9 @@ pub fn bound_tables(
     fields: &AskFields,
 ) -> Result<BoundList, BindRefusal>
     ensures { Gives (map bound_view) refusal.Memory
-          (bounds_due role.now (meta_view scope.now.meta.now) (scope_schema scope.now) session.now.vars
-             (touched (fields_of (map keyed_field_view fields.now.items)) (scope_schema scope.now) (length scope.now.catalog.now.tables)))
-          result }
+        (bounds_due role.now (meta_view scope.now.meta.now) (scope_schema scope.now) session.now.vars
+        (touched (fields_of (map keyed_field_view fields.now.items)) (scope_schema scope.now) (length scope.now.catalog.now.tables)))
+        result }
 {
     let tables = touched_tables(alloc, scope, fields)?;
     bound_each(alloc, role, scope, session, tables.as_slice())

@@ -12,7 +12,7 @@ mod looks;
 mod request;
 mod summaries;
 
-pub use request::{AskRefusal, build};
 pub use bound::bound_tables;
 pub use conditions::Touched;
 pub use laws::bound_for_sessions;
+pub use request::{AskRefusal, build};

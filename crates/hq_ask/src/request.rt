@@ -22,10 +22,10 @@ ghost use Rattle.hq_terms.specs.Meta.{meta_view};
 ghost use Rattle.hq_terms.specs.Scope.{scope_schema};
 
 use crate::ask::ask_fields;
+use crate::bound_tables;
 use hq_arguments::Context;
 use hq_ask_tree::{Ask, AskFields, BoundList};
 use hq_base::Memory;
-use crate::bound_tables;
 use hq_coerce::{CoerceRefusal, OpRef, VarValues, fault_of, operation_at};
 use hq_collect::{
     CollectedList, Fragments, Request, collected_tree, is_bounded, is_narrow, is_small,
@@ -147,9 +147,9 @@ fn bound_in(
 ) -> Result<BoundList, AskRefusal>
     requires { role.now ≡ role_of session.now.role }
     ensures { Gives (map bound_view) refusal.Memory
-          (bound_in (meta_view scope.now.meta.now) (scope_schema scope.now) session.now (length scope.now.catalog.now.tables)
-             (fields_of (map keyed_field_view fields.now.items)))
-          result }
+        (bound_in (meta_view scope.now.meta.now) (scope_schema scope.now) session.now (length scope.now.catalog.now.tables)
+        (fields_of (map keyed_field_view fields.now.items)))
+        result }
 {
     match bound_tables(alloc, role, scope, session, fields) {
         Ok(bound) => Ok(bound),
@@ -166,9 +166,9 @@ fn fields_of<'a>(
     fields: &CollectedList<'_>,
 ) -> Result<AskFields, AskRefusal>
     ensures { let s = scope_schema scope.entry in Gives (λ v. fields_of (map keyed_field_view v.items)) refusal.Memory
-          (root_due (map var_view vars.now) (schema_view schema.now) s (length scope.entry.catalog.now.tables)
-             (trees_of (map collected_view fields.now.items)))
-          result }
+        (root_due (map var_view vars.now) (schema_view schema.now) s (length scope.entry.catalog.now.tables)
+        (trees_of (map collected_view fields.now.items)))
+        result }
 {
     let root = TableId::new(scope.catalog.tables.len());
     let context = Context {

@@ -157,7 +157,7 @@ fn summary_by(
     field: &CollectedField<'_>,
 ) -> Result<AggField, CoerceRefusal>
     ensures { let c = context_view context.now in let k = known_view known.now in let f = parts_seen field.now in Gives (λ a. a) refusal.Memory
-          (summary_by c place f.head k (taken_due c (leads_to k) t f.below) k.0.origin) result }
+        (summary_by c place f.head k (taken_due c (leads_to k) t f.below) k.0.origin) result }
 {
     let to = known.def.ty.base();
     match known.def.origin {

@@ -69,7 +69,7 @@ module _ {R S : Type 0} {s : Schema} {A : Sees R} {B : Sees S} {ok : Allowed} {Q
     truth_alike (like c fold negated v) t x y u q = ap (λ d. negated_if negated (matched fold d (operand_cell v))) (a.cells t c x y u q)
     truth_alike (through r e) t x y u q =
         ap truth_of (zip_any (Q (rel s t r).remote) (λ far. A.linked t r x far && is_true (truth e s A (rel s t r).remote far))
-          (λ far. B.linked t r y far && is_true (truth e s B (rel s t r).remote far))
+        (λ far. B.linked t r y far && is_true (truth e s B (rel s t r).remote far))
         (λ far near h. ap₂ (λ b c. b && c) (a.links t r x y far near u.0 q h) (ap is_true (truth_alike e (rel s t r).remote far near u.1 h)))
         (A.rows (rel s t r).remote) (B.rows (rel s t r).remote) (a.rows (rel s t r).remote (a.remotes t r u.0)))
 
@@ -119,7 +119,7 @@ module _ {R S : Type 0} {s : Schema} {A : Sees R} {B : Sees S} {ok : Allowed} {Q
   entries_used (k ∷ ks) cs t u d = u
 
   pub selected_alike : (b : ListArguments) (t : ℕ) (limit : Option ℕ) → UsesArguments b s ok t → (xs : List R) (ys : List S)
-    → Zip (Q t) xs ys → Zip (Q t) (selected s A t b limit xs) (selected s B t b limit ys)
+      → Zip (Q t) xs ys → Zip (Q t) (selected s A t b limit xs) (selected s B t b limit ys)
   selected_alike b t limit u xs ys h =
       let kept = zip_filter (Q t) (keeps b.wanted s A t) (keeps b.wanted s B t) (λ x y q. ap is_true (truth_alike b.wanted t x y u.0 q)) xs ys h in
       let sorted = zip_sort (Q t) (sorts_cmp (entries b) s A t) (sorts_cmp (entries b) s B t) (sorts_alike (entries b) t (entries_used b.sorts b.distinct t u.1 u.2)) _ _ kept in
@@ -150,7 +150,7 @@ module _ {R S : Type 0} {s : Schema} {A : Sees R} {B : Sees S} {ok : Allowed} {Q
   taken_one take (of.Typename name) t u xs ys h = refl
 
   taken_alike : (take : List CellTree → CellTree) (cs : List KeyedAggCol) (t : ℕ) → UsesTaken cs ok t → (xs : List R) (ys : List S)
-    → Zip (Q t) xs ys → taken_members take cs A t xs ≡ taken_members take cs B t ys
+      → Zip (Q t) xs ys → taken_members take cs A t xs ≡ taken_members take cs B t ys
   taken_alike take [] t u xs ys h = refl
   taken_alike take (c ∷ cs) t u xs ys h = ap₂ (member c.key) (taken_one take c.field t u.0 xs ys h) (taken_alike take cs t u.1 xs ys h)
 
@@ -174,7 +174,7 @@ module _ {R S : Type 0} {s : Schema} {A : Sees R} {B : Sees S} {ok : Allowed} {Q
   module _ (k l : ℕ → Option ℕ) (same : (t : ℕ) → ok.rows t ≡ true → k t ≡ l t) where
     -- the array of a list, and the object of a look-up by key, of fields that are answered alike at related rows
     rows_alike : (fs : FieldTrees) (v : ℕ) (b : ListArguments) → ok.rows v ≡ true → UsesArguments b s ok v
-      → ((x : R) (y : S) → Q v x y → resolve_all fs s k A v x ≡ resolve_all fs s l B v y) → (xs : List R) (ys : List S) → Zip (Q v) xs ys
+        → ((x : R) (y : S) → Q v x y → resolve_all fs s k A v x ≡ resolve_all fs s l B v y) → (xs : List R) (ys : List S) → Zip (Q v) xs ys
         → arr (elements_of (map (λ far. obj (resolve_all fs s k A v far)) (selected s A v b (k v) xs))) ≡ arr (elements_of (map (λ far. obj (resolve_all fs s l B v far)) (selected s B v b (l v) ys)))
     rows_alike fs v b allowed u below xs ys h =
         ap (λ js. arr (elements_of js))
@@ -201,19 +201,19 @@ module _ {R S : Type 0} {s : Schema} {A : Sees R} {B : Sees S} {ok : Allowed} {Q
           ap first_or_null (zip_map (Q (rel s t r).remote) _ _ (λ far near h. ap obj (all_alike fs (rel s t r).remote far near w h)) _ _ (related_alike t r x y u q))
       one_alike (list o b fs) t x y u w q =
           rows_alike fs (origin_table o s t) b (origin_allowed o t u.0) u.1 (λ far near h. all_alike fs (origin_table o s t) far near w h) _
-            _ (origin_alike o t x y u.0 q)
+          _ (origin_alike o t x y u.0 q)
       one_alike (by_key v key fs) t x y u w q = found_alike v key fs u.0 u.1 (λ far near h. all_alike fs v far near w h)
       one_alike (aggregate o b ps) t x y u w q = ap obj (parts_alike ps (origin_table o s t) b (origin_allowed o t u.0) u.2 w _ _ (origin_alike o t x y u.0 q))
       one_alike (introspect f) t x y u w q = refl
 
       parts_alike : (ps : PartTrees) (v : ℕ) (b : ListArguments) → ok.rows v ≡ true → UsesArguments b s ok v
-        → EveryPart (UsesHere s ok) (UsesPart ok) ps s v → (xs : List R) (ys : List S) → Zip (Q v) xs ys
+          → EveryPart (UsesHere s ok) (UsesPart ok) ps s v → (xs : List R) (ys : List S) → Zip (Q v) xs ys
           → resolve_parts ps s k A v b xs ≡ resolve_parts ps s l B v b ys
       parts_alike no_part v b allowed u w xs ys h = refl
       parts_alike (part key p ps) v b allowed u w xs ys h = ap₂ (member key) (part_alike p v b allowed u w.0 w.1 xs ys h) (parts_alike ps v b allowed u w.2 xs ys h)
 
       part_alike : (p : PartTree) (v : ℕ) (b : ListArguments) → ok.rows v ≡ true → UsesArguments b s ok v → UsesPart ok v p
-        → BelowPart (UsesHere s ok) (UsesPart ok) p s v → (xs : List R) (ys : List S) → Zip (Q v) xs ys
+          → BelowPart (UsesHere s ok) (UsesPart ok) p s v → (xs : List R) (ys : List S) → Zip (Q v) xs ys
           → resolve_part p s k A v b xs ≡ resolve_part p s l B v b ys
       part_alike (summary fs) v b allowed u here w xs ys h = ap obj (summary_alike fs v here _ _ (selected_alike b v None u xs ys h))
       part_alike (nodes fs) v b allowed u here w xs ys h = rows_alike fs v b allowed u (λ far near g. all_alike fs v far near w g) xs ys h

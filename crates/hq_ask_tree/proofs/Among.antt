@@ -13,10 +13,11 @@ among_more x t xs h =
 
 pub among_itself : (ts : List ℕ) → Each (λ t. list_any (λ u. u == t) ts ≡ true) ts
 among_itself [] = tt
-among_itself (x ∷ xs) =
-    (ap (λ b. b || list_any (λ u. u == x) xs) (eq-eqb x x refl),
-       each_weaken (λ t. list_any (λ u. u == t) xs ≡ true) (λ t. list_any (λ u. u == t) (x ∷ xs) ≡ true) (λ t h. among_more x t xs h) xs
-         (among_itself xs))
+among_itself (x ∷ xs) = (
+  ap (λ b. b || list_any (λ u. u == x) xs) (eq-eqb x x refl),
+  each_weaken (λ t. list_any (λ u. u == t) xs ≡ true) (λ t. list_any (λ u. u == t) (x ∷ xs) ≡ true) (λ t h. among_more x t xs h) xs
+      (among_itself xs),
+)
 
 -- what holds of each holds of one that is among them
 pub holds_among : (P : ℕ → Type 0) (ts : List ℕ) (t : ℕ) → Each P ts → list_any (λ u. u == t) ts ≡ true → P t

@@ -73,7 +73,7 @@ told_within : (k : TrackedTree) (o : Option PermTree) → Each (Within k) (permi
 told_within k None = tt
 told_within k (Some p) =
     with_within k (record { columns = []; filter = p.filter; limit = p.limit; aggregations = p.aggregations; masks = [] }) _
-      (each_filter (Within k) (λ c. list_any (λ d. d == c) p.cols) (named_columns k) (all_within k))
+    (each_filter (Within k) (λ c. list_any (λ d. d == c) p.cols) (named_columns k) (all_within k))
 
 permitted_within : (role : Role) (k : TrackedTree) → Each (Within k) (permitted_columns (permission_in role k))
 permitted_within Admin k = with_within k (record { columns = []; filter = always; limit = None; aggregations = true; masks = [] }) _ (all_within k)
@@ -93,7 +93,7 @@ module _ (tables : List Table) (m : MetaTree) (fit : fits tables m ≡ true) whe
 
   -- of an entry that fits: its table is in the catalog, it has a name for each column, and its relationships fit
   parts : (k : TrackedTree) → fits_tracked s m k ≡ true
-    → (nat_lt k.table (length s) ≡ true) × ((length k.column_names == length (table s k.table).columns) ≡ true)
+      → (nat_lt k.table (length s) ≡ true) × ((length k.column_names == length (table s k.table).columns) ≡ true)
       × (list_all (fits_rel s m k.table) k.rels ≡ true)
   parts k h =
       let rels = and_parts _ _ (and_parts _ _ (and_parts _ _ (and_parts _ _ h).0).0).0 in

@@ -360,18 +360,18 @@ home =
 
 home_for_1 : given user_1 home
     ≡ codes
-      "{\"author\":[{\"id\":1,\"name\":\"Ann\",\"articles_aggregate\":{\"aggregate\":{\"count\":2}},\"__typename\":\"author\"},{\"id\":2,\"name\":\"Bob\",\"articles_aggregate\":{\"aggregate\":{\"count\":1}},\"__typename\":\"author\"}]}"
+    "{\"author\":[{\"id\":1,\"name\":\"Ann\",\"articles_aggregate\":{\"aggregate\":{\"count\":2}},\"__typename\":\"author\"},{\"id\":2,\"name\":\"Bob\",\"articles_aggregate\":{\"aggregate\":{\"count\":1}},\"__typename\":\"author\"}]}"
 unfolding digits escaped
 home_for_1 = refl
 
 home_for_2 : given user_2 home
-  ≡ codes
+    ≡ codes
     "{\"author\":[{\"id\":1,\"name\":\"Ann\",\"articles_aggregate\":{\"aggregate\":{\"count\":1}},\"__typename\":\"author\"},{\"id\":2,\"name\":\"Bob\",\"articles_aggregate\":{\"aggregate\":{\"count\":1}},\"__typename\":\"author\"}]}"
 unfolding digits escaped
 home_for_2 = refl
 
 home_for_admin : given admin home
-  ≡ codes
+    ≡ codes
     "{\"author\":[{\"id\":1,\"name\":\"Ann\",\"articles_aggregate\":{\"aggregate\":{\"count\":2}},\"__typename\":\"author\"},{\"id\":2,\"name\":\"Bob\",\"articles_aggregate\":{\"aggregate\":{\"count\":1}},\"__typename\":\"author\"}]}"
 unfolding digits escaped
 home_for_admin = refl

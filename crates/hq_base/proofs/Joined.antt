@@ -48,7 +48,7 @@ regroup : (begin joined comma name value : List ℕ) → (((((begin ++ joined) +
 regroup begin joined comma name value = simp append_assoc
 
 pub one_more_member : (ms : List Member) (i : ℕ) (m : Member) (name : List ℕ) (j : JsonTree) (begin now comma named colon after : List ℕ)
-  → i < length ms → m ≡ get_or ms i m → member_view m ≡ (name, j)
+    → i < length ms → m ≡ get_or ms i m → member_view m ≡ (name, j)
     → now ≡ begin ++ join_with_byte 44 (member_texts (members_of (map member_view (take i ms))))
     → comma ≡ now ++ (if i == 0 then [] else 44 ∷ []) → named ≡ comma ++ quoted name → colon ≡ named ++ 58 ∷ [] → after ≡ colon ++ compact j
     → after ≡ begin ++ join_with_byte 44 (member_texts (members_of (map member_view (take (i + 1) ms))))

@@ -88,6 +88,6 @@ pub elements_more : (js now : List Json) (j : Json) → now ≡ js ++ j ∷ [] �
 elements_more js now j is all new = rw (is, map-append) (one_more_element (map json_view js) (json_view j) all new)
 
 pub values_more : (ms now : List Member) (m : Member) (name : List ℕ) (j : JsonTree) → now ≡ ms ++ m ∷ [] → member_view m ≡ (name, j)
-  → values_have_distinct_names (members_of (map member_view ms)) ≡ true → has_distinct_names j ≡ true
+    → values_have_distinct_names (members_of (map member_view ms)) ≡ true → has_distinct_names j ≡ true
     → values_have_distinct_names (members_of (map member_view now)) ≡ true
 values_more ms now m name j is view all new = rw (is, map-append, view) (one_more_value (map member_view ms) (name, j) all new)

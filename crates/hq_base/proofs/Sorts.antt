@@ -107,8 +107,8 @@ module _ {A : Type 0} {R : A → A → Ordering} (o : IsTotalOrder R) where
       elim [
         | true ↦ λ e.
             let at : (c d : Bool)
-              → cond d (y ∷ cond c (put R x (filter p ys)) (filter p ys)) (cond c (put R x (filter p ys)) (filter p ys))
-                ≡ cond c (put R x (cond d (y ∷ filter p ys) (filter p ys))) (cond d (y ∷ filter p ys) (filter p ys)) =
+            → cond d (y ∷ cond c (put R x (filter p ys)) (filter p ys)) (cond c (put R x (filter p ys)) (filter p ys))
+            ≡ cond c (put R x (cond d (y ∷ filter p ys) (filter p ys))) (cond d (y ∷ filter p ys) (filter p ys)) =
             elim [ true ↦ elim [ true ↦ rw e refl | false ↦ refl ] | false ↦ elim [ true ↦ refl | false ↦ refl ] ] in
             rw later (at (p x) (p y))
         | false ↦ λ e.

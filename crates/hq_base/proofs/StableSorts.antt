@@ -68,10 +68,10 @@ module _ {A : Type 0} {R : A → A → Ordering} (o : IsTotalOrder R) where
       let rest : (x : A) → filter (tie x) ys ≡ filter (tie x) zs =
       λ x.
       let s : cond (tie x y) (y ∷ filter (tie x) ys) (filter (tie x) ys) ≡ cond (tie x y) (y ∷ filter (tie x) zs) (filter (tie x) zs) =
-          same x ∙ ap (λ v. cond (tie x v) (v ∷ filter (tie x) zs) (filter (tie x) zs)) (sym head) in
+      same x ∙ ap (λ v. cond (tie x v) (v ∷ filter (tie x) zs) (filter (tie x) zs)) (sym head) in
       let go : (c : Bool) → cond c (y ∷ filter (tie x) ys) (filter (tie x) ys) ≡ cond c (y ∷ filter (tie x) zs) (filter (tie x) zs)
-          → filter (tie x) ys ≡ filter (tie x) zs =
-          elim [ true ↦ λ e. cc | false ↦ λ e. e ] in
+      → filter (tie x) ys ≡ filter (tie x) zs =
+      elim [ true ↦ λ e. cc | false ↦ λ e. e ] in
       go (tie x y) s in
       let tails = one_order ys zs a.1 b.1 rest in
       cc

@@ -44,7 +44,7 @@ some_left false columns given e is ok =
     ap (λ (cs : List Column). length cs == 0) (sym same) ∙ is
 
 columns_steps : {L E : Type 0} (list : Result L E) (read : L → Result (List Column) E) (e : E) (given : List Column)
-  → (list >>= λ l. read l >>= λ columns. cond (length columns == 0) (Err e) (Ok columns)) ≡ Ok given → (length given == 0) ≡ false
+    → (list >>= λ l. read l >>= λ columns. cond (length columns == 0) (Err e) (Ok columns)) ≡ Ok given → (length given == 0) ≡ false
 columns_steps (Ok l) read e given ok =
     let (columns, read_are, tested) = and_then-Ok (λ columns. cond (length columns == 0) (Err e) (Ok columns)) (read l) given ok in
     some_left (length columns == 0) columns given e refl tested
@@ -58,8 +58,8 @@ columns_member-some path object columns given =
 -- five steps, of which the third is asked for
 five_steps : {A B C D F G E : Type 0} (first : Result A E) (second : Result B E) (third : Result C E) (fourth : Result D E)
     (fifth : Result F E) (make : A → B → C → D → F → G) (y : G)
-  → (first >>= λ a. second >>= λ b. third >>= λ c. fourth >>= λ d. fifth >>= λ f. Ok (make a b c d f)) ≡ Ok y
-  → (a : A) × (b : B) × (c : C) × (d : D) × (f : F) × (third ≡ Ok c) × (make a b c d f ≡ y)
+    → (first >>= λ a. second >>= λ b. third >>= λ c. fourth >>= λ d. fifth >>= λ f. Ok (make a b c d f)) ≡ Ok y
+    → (a : A) × (b : B) × (c : C) × (d : D) × (f : F) × (third ≡ Ok c) × (make a b c d f ≡ y)
 five_steps (Ok a) (Ok b) (Ok c) (Ok d) (Ok f) make y ok = (a, b, c, d, f, refl, cc)
 five_steps (Ok a) (Ok b) (Ok c) (Ok d) (Err e) make y ok = cc
 five_steps (Ok a) (Ok b) (Ok c) (Err e) fifth make y ok = cc
@@ -69,19 +69,19 @@ five_steps (Err e) second third fourth fifth make y ok = cc
 
 -- a table that is read has a column
 table_of_object : (path : List ℕ) (object : Result JsonTree CatalogRefusal) (w : WrittenTable)
-  →
-      (object >>= λ o. text_member path o field.Schema >>= λ schema. text_member path o field.Name >>= λ name. columns_member path o >>= λ
-         columns. names_member path o field.PrimaryKey >>= λ key. foreign_keys_member path o >>= λ foreign. let made : WrittenTable = record
-         { schema = schema; name = name; columns = columns; key = key; foreign = foreign } in Ok made)
+    →
+    (object >>= λ o. text_member path o field.Schema >>= λ schema. text_member path o field.Name >>= λ name. columns_member path o >>= λ
+    columns. names_member path o field.PrimaryKey >>= λ key. foreign_keys_member path o >>= λ foreign. let made : WrittenTable = record
+    { schema = schema; name = name; columns = columns; key = key; foreign = foreign } in Ok made)
     ≡ Ok w
-  → (length w.columns == 0) ≡ false
+    → (length w.columns == 0) ≡ false
 table_of_object path (Ok o) w given =
     let make =
-        λ (schema name : List ℕ) (columns : List Column) (key : List (List ℕ)) (foreign : List WrittenForeignKey). let made : WrittenTable =
-          record { schema = schema; name = name; columns = columns; key = key; foreign = foreign } in made in
+    λ (schema name : List ℕ) (columns : List Column) (key : List (List ℕ)) (foreign : List WrittenForeignKey). let made : WrittenTable =
+    record { schema = schema; name = name; columns = columns; key = key; foreign = foreign } in made in
     let (schema, name, columns, key, foreign, columns_are, made) =
-        five_steps (text_member path o field.Schema) (text_member path o field.Name) (columns_member path o)
-          (names_member path o field.PrimaryKey) (foreign_keys_member path o) make w given in
+    five_steps (text_member path o field.Schema) (text_member path o field.Name) (columns_member path o)
+    (names_member path o field.PrimaryKey) (foreign_keys_member path o) make w given in
     ap (λ (t : WrittenTable). length t.columns == 0) (sym made) ∙ columns_member-some path o columns columns_are
 table_of_object path (Err e) w given = cc
 
@@ -96,7 +96,7 @@ tables_have_columns (j ∷ js) (w ∷ ws) gave =
 
 list_steps : (object : Result JsonTree CatalogRefusal) (list : JsonTree → Result (List JsonTree) CatalogRefusal) (path : List ℕ)
     (ws : List WrittenTable)
-  → (object >>= λ o. list o >>= λ js. each table_at path js) ≡ Ok ws → AllByRecursion (λ w. (length w.columns == 0) ≡ false) ws
+    → (object >>= λ o. list o >>= λ js. each table_at path js) ≡ Ok ws → AllByRecursion (λ w. (length w.columns == 0) ≡ false) ws
 list_steps (Ok o) list path ws given =
     let (js, list_is, read) = and_then-Ok (λ js. each table_at path js) (list o) ws given in
     tables_have_columns js ws (each_from-Ok table_at path 0 js ws read)
@@ -109,7 +109,7 @@ written_tables-columns j ws given =
 
 -- no table repeats a name within it, and no name of a table is that of an earlier one
 repeat_from-None : (earlier : List (List ℕ)) (ws : List WrittenTable) → repeat_from earlier ws ≡ None
-  → AllByRecursion (λ w. repeat_within w ≡ None) ws × (first_repeat earlier (map full_name ws) ≡ None)
+    → AllByRecursion (λ w. repeat_within w ≡ None) ws × (first_repeat earlier (map full_name ws) ≡ None)
 repeat_from-None earlier [] none = (tt, refl)
 repeat_from-None earlier (w ∷ ws) none =
     let (here, after) = option_or-None (known earlier (full_name w)) (option_or (repeat_within w) (repeat_from (earlier ++ full_name w ∷ []) ws)) none in
@@ -119,9 +119,9 @@ repeat_from-None earlier (w ∷ ws) none =
 
 -- what the tests found, table by table
 all_pass : (ws : List WrittenTable) → AllByRecursion (λ w. (length w.columns == 0) ≡ false) ws
-  → AllByRecursion (λ w. nat_lt 200 (length w.columns) ≡ false) ws
-  → AllByRecursion (λ w. find (λ name. not (is_catalog_name name)) (declared_names w) ≡ None) ws
-  → AllByRecursion (λ w. repeat_within w ≡ None) ws → AllByRecursion (λ w. (length w.key == 0) ≡ false) ws → AllByRecursion Passes ws
+    → AllByRecursion (λ w. nat_lt 200 (length w.columns) ≡ false) ws
+    → AllByRecursion (λ w. find (λ name. not (is_catalog_name name)) (declared_names w) ≡ None) ws
+    → AllByRecursion (λ w. repeat_within w ≡ None) ws → AllByRecursion (λ w. (length w.key == 0) ≡ false) ws → AllByRecursion Passes ws
 all_pass [] some few lengths once keyed = tt
 all_pass (w ∷ ws) some few lengths once keyed = (
   record { has_column = some.0; few_columns = few.0; lengths = lengths.0; no_repeat = once.0; has_key = keyed.0 },
@@ -138,7 +138,7 @@ full_names all (w ∷ ws) (t ∷ ts) resolve =
     ap (λ name. name ∷ map catalog.full_name ts) same ∙ ap (λ names. full_name w ∷ names) (full_names all ws ts resolve.1)
 
 tables_differ : (all ws : List WrittenTable) (ts : List Table) → AllZip (Resolves all) ws ts → first_repeat [] (map full_name ws) ≡ None
-  → all_differ (λ t u. bytes_eq (catalog.full_name t) (catalog.full_name u)) ts ≡ true
+    → all_differ (λ t u. bytes_eq (catalog.full_name t) (catalog.full_name u)) ts ≡ true
 tables_differ all ws ts resolve none =
     sym (all_differ-map bytes_eq catalog.full_name ts)
     ∙ ap (all_differ bytes_eq) (full_names all ws ts resolve)
@@ -146,8 +146,8 @@ tables_differ all ws ts resolve none =
 
 -- the tables that a file gives are a catalog
 pub is_catalog-resolved : (j : JsonTree) (ws : List WrittenTable) (ts : List Table) → written_tables j ≡ Ok ws
-  → passed (too_many ws) ≡ Ok tt → passed (wrong_length ws) ≡ Ok tt → passed (repeated ws) ≡ Ok tt → passed (no_key ws) ≡ Ok tt
-  → resolved ws ≡ Ok ts → is_catalog ts ≡ true
+    → passed (too_many ws) ≡ Ok tt → passed (wrong_length ws) ≡ Ok tt → passed (repeated ws) ≡ Ok tt → passed (no_key ws) ≡ Ok tt
+    → resolved ws ≡ Ok ts → is_catalog ts ≡ true
 unfolding too_many_tables too_many_columns wrong_length repeated no_key
 is_catalog-resolved j ws ts written few lengths once keyed given =
     let (few_tables, few_columns) = option_or-None (too_many_tables ws) (too_many_columns ws) (passed-Ok (too_many ws) few) in
@@ -156,8 +156,8 @@ is_catalog-resolved j ws ts written few lengths once keyed given =
     let pass = all_pass ws (written_tables-columns j ws written)
     (find-None (λ w. nat_lt 200 (length w.columns)) ws (option_map-None (λ w. TooMany (field_name field.Columns) (length w.columns)) (find (λ w. nat_lt 200 (length w.columns)) ws) few_columns))
     (find_in_each-None (λ name. not (is_catalog_name name)) declared_names ws
-       (option_map-None NameLength (find (λ name. not (is_catalog_name name)) (flat_map declared_names ws))
-          (passed-Ok (wrong_length ws) lengths)))
+    (option_map-None NameLength (find (λ name. not (is_catalog_name name)) (flat_map declared_names ws))
+    (passed-Ok (wrong_length ws) lengths)))
     within
     (find-None (λ w. length w.key == 0) ws (option_map-None (λ w. NoKey (full_name w)) (find (λ w. length w.key == 0) ws) (passed-Ok (no_key ws) keyed))) in
     let not_many = few_from-not_many 500 (length ws) (cond-None (nat_lt 500 (length ws)) (TooMany (field_name field.Tables) (length ws)) None few_tables).0 in

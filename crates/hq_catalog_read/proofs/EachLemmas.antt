@@ -15,8 +15,8 @@ grown done y (Err e) = refl
 -- the item at a place is read, and the loop goes on behind it
 pub each_from-more : {A B : Type 0} (read : List ℕ → A → Result B CatalogRefusal) (path p : List ℕ) (xs : List A) (i : ℕ) (x : A)
     (done more : List B) (y : B) (whole : Result (List B) CatalogRefusal)
-  → whole ≡ mapped (λ ys. done ++ ys) (each_from read path i (drop i xs)) → i < length xs → x ≡ get_or xs i x → p ≡ item_path path i
-  → read p x ≡ Ok y → more ≡ done ++ y ∷ [] → whole ≡ mapped (λ ys. more ++ ys) (each_from read path (i + 1) (drop (i + 1) xs))
+    → whole ≡ mapped (λ ys. done ++ ys) (each_from read path i (drop i xs)) → i < length xs → x ≡ get_or xs i x → p ≡ item_path path i
+    → read p x ≡ Ok y → more ≡ done ++ y ∷ [] → whole ≡ mapped (λ ys. more ++ ys) (each_from read path (i + 1) (drop (i + 1) xs))
 each_from-more read path p xs i x done more y whole so_far below is at given grows =
     let rest = each_from read path (i + 1) (drop (i + 1) xs) in
     so_far
@@ -28,9 +28,9 @@ each_from-more read path p xs i x done more y whole so_far below is at given gro
 -- the same, where the items are seen by a view
 pub each_from-more_view : {A V B : Type 0} (view : A → V) (read : List ℕ → V → Result B CatalogRefusal) (path p : List ℕ) (xs : List A)
     (i : ℕ) (x : A) (done more : List B) (y : B) (whole : Result (List B) CatalogRefusal)
-  → whole ≡ mapped (λ ys. done ++ ys) (each_from read path i (map view (drop i xs))) → i < length xs → x ≡ get_or xs i x
-  → p ≡ item_path path i → read p (view x) ≡ Ok y → more ≡ done ++ y ∷ []
-  → whole ≡ mapped (λ ys. more ++ ys) (each_from read path (i + 1) (map view (drop (i + 1) xs)))
+    → whole ≡ mapped (λ ys. done ++ ys) (each_from read path i (map view (drop i xs))) → i < length xs → x ≡ get_or xs i x
+    → p ≡ item_path path i → read p (view x) ≡ Ok y → more ≡ done ++ y ∷ []
+    → whole ≡ mapped (λ ys. more ++ ys) (each_from read path (i + 1) (map view (drop (i + 1) xs)))
 each_from-more_view view read path p xs i x done more y whole so_far below is at given grows =
     let rest = each_from read path (i + 1) (map view (drop (i + 1) xs)) in
     so_far

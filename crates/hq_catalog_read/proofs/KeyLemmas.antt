@@ -29,8 +29,8 @@ and-false false = refl
 
 -- what is not among the earlier names and the next one is not among the earlier ones, and is not the next one
 split_earlier : (earlier : List (List ℕ)) (name : List ℕ) (names : List (List ℕ))
-  → AllByRecursion (λ n. list_any (λ e. bytes_eq e n) (earlier ++ name ∷ []) ≡ false) names
-  → AllByRecursion (λ n. list_any (λ e. bytes_eq e n) earlier ≡ false) names × AllByRecursion (λ n. bytes_eq name n ≡ false) names
+    → AllByRecursion (λ n. list_any (λ e. bytes_eq e n) (earlier ++ name ∷ []) ≡ false) names
+    → AllByRecursion (λ n. list_any (λ e. bytes_eq e n) earlier ≡ false) names × AllByRecursion (λ n. bytes_eq name n ≡ false) names
 split_earlier earlier name [] apart = (tt, tt)
 split_earlier earlier name (n ∷ ns) apart =
     let (among, next) = or-false (list_any (λ e. bytes_eq e n) earlier) (list_any (λ e. bytes_eq e n) (name ∷ [])) (sym (list_any-append (λ e. bytes_eq e n) earlier (name ∷ [])) ∙ apart.0) in
@@ -39,7 +39,7 @@ split_earlier earlier name (n ∷ ns) apart =
 
 -- names of which none is among those before it are not among the earlier ones, and they all differ
 pub first_repeat-None : (earlier names : List (List ℕ)) → first_repeat earlier names ≡ None
-  → AllByRecursion (λ n. list_any (λ e. bytes_eq e n) earlier ≡ false) names × (all_differ bytes_eq names ≡ true)
+    → AllByRecursion (λ n. list_any (λ e. bytes_eq e n) earlier ≡ false) names × (all_differ bytes_eq names ≡ true)
 first_repeat-None earlier [] none = (tt, refl)
 first_repeat-None earlier (name ∷ names) none =
     let (here, rest) = option_or-None (known earlier name) (first_repeat (earlier ++ name ∷ []) names) none in
@@ -60,8 +60,8 @@ one_place columns m n i j (c, at_i, named_m) (d, at_j, named_n) same =
 
 -- a name that is none of others has a place that is none of theirs
 other_place : (columns : List Column) (name : List ℕ) (place : ℕ) (names : List (List ℕ)) (places : List ℕ) → Names columns name place
-  → AllZip (Names columns) names places → AllByRecursion (λ n. bytes_eq name n ≡ false) names
-  → AllByRecursion (λ p. (place == p) ≡ false) places
+    → AllZip (Names columns) names places → AllByRecursion (λ n. bytes_eq name n ≡ false) names
+    → AllByRecursion (λ p. (place == p) ≡ false) places
 other_place columns name place [] [] named beside apart = tt
 other_place columns name place [] (p ∷ ps) named beside apart = absurd beside
 other_place columns name place (n ∷ ns) [] named beside apart = absurd beside
@@ -72,15 +72,15 @@ other_place columns name place (n ∷ ns) (p ∷ ps) named beside apart = (
 
 -- where the names differ, their places do
 pub places_differ : (columns : List Column) (names : List (List ℕ)) (places : List ℕ) → AllZip (Names columns) names places
-  → all_differ bytes_eq names ≡ true → all_differ (λ p q. p == q) places ≡ true
+    → all_differ bytes_eq names ≡ true → all_differ (λ p q. p == q) places ≡ true
 places_differ columns [] [] beside differ = refl
 places_differ columns [] (p ∷ ps) beside differ = absurd beside
 places_differ columns (n ∷ ns) [] beside differ = absurd beside
 places_differ columns (n ∷ ns) (p ∷ ps) beside differ =
     let (apart, rest) = and-true (not (list_any (bytes_eq n) ns)) (all_differ bytes_eq ns) differ in
     all_differ-cons (λ a b. a == b) p ps
-      (other_place columns n p ns ps beside.0 beside.1 (list_any-false (bytes_eq n) ns (not-true (list_any (bytes_eq n) ns) apart)))
-      (places_differ columns ns ps beside.1 rest)
+    (other_place columns n p ns ps beside.0 beside.1 (list_any-false (bytes_eq n) ns (not-true (list_any (bytes_eq n) ns) apart)))
+    (places_differ columns ns ps beside.1 rest)
 
 -- each name of a list is among them
 each_among : (earlier names : List (List ℕ)) → AllByRecursion (λ n. list_any (λ e. bytes_eq e n) (earlier ++ names) ≡ true) names
@@ -94,8 +94,8 @@ each_among earlier (n ∷ ns) = (
 
 -- the columns that a key names hold no NULL
 no_null : (key : List (List ℕ)) (columns : List Column) (names : List (List ℕ)) (places : List ℕ) → AllZip (Names columns) names places
-  → AllByRecursion (λ n. list_any (λ e. bytes_eq e n) key ≡ true) names
-  → list_all (λ p. holds_no_null (slice_get (map (settled key) columns) p)) places ≡ true
+    → AllByRecursion (λ n. list_any (λ e. bytes_eq e n) key ≡ true) names
+    → list_all (λ p. holds_no_null (slice_get (map (settled key) columns) p)) places ≡ true
 no_null key columns [] [] beside among = refl
 no_null key columns [] (p ∷ ps) beside among = absurd beside
 no_null key columns (n ∷ ns) [] beside among = absurd beside
@@ -109,5 +109,5 @@ no_null key columns (n ∷ ns) (p ∷ ps) beside among =
     (no_null key columns ns ps beside.1 among.1)
 
 pub key_holds_no_null : (key : List (List ℕ)) (columns : List Column) (places : List ℕ) → AllZip (Names columns) key places
-  → list_all (λ p. holds_no_null (slice_get (map (settled key) columns) p)) places ≡ true
+    → list_all (λ p. holds_no_null (slice_get (map (settled key) columns) p)) places ≡ true
 key_holds_no_null key columns places beside = no_null key columns key places beside (each_among [] key)

@@ -19,15 +19,15 @@ type-settled key columns place = ap type_of (slice_get-map (settled key) columns
 
 -- pairs that can be compared by the types that the file writes fit the tables
 pub pairs_fit-zip : (t u : Table) (own remote : List Column) → ((c : ℕ) → column_type t c ≡ type_of (slice_get own c))
-  → ((d : ℕ) → column_type u d ≡ type_of (slice_get remote d)) → (cs ds : List ℕ) → length cs ≡ length ds
-  → list_all (λ p. can_pair (type_of (slice_get own p.0)) (type_of (slice_get remote p.1))) (zip cs ds) ≡ true → pairs_fit t u cs ds ≡ true
+    → ((d : ℕ) → column_type u d ≡ type_of (slice_get remote d)) → (cs ds : List ℕ) → length cs ≡ length ds
+    → list_all (λ p. can_pair (type_of (slice_get own p.0)) (type_of (slice_get remote p.1))) (zip cs ds) ≡ true → pairs_fit t u cs ds ≡ true
 pairs_fit-zip t u own remote own_types remote_types [] [] same all = refl
 pairs_fit-zip t u own remote own_types remote_types [] (d ∷ ds) same all = absurd (omega arith)
 pairs_fit-zip t u own remote own_types remote_types (c ∷ cs) [] same all = absurd (omega arith)
 pairs_fit-zip t u own remote own_types remote_types (c ∷ cs) (d ∷ ds) same all =
     let (here, rest) =
-        and-true (can_pair (type_of (slice_get own c)) (type_of (slice_get remote d)))
-          (list_all (λ p. can_pair (type_of (slice_get own p.0)) (type_of (slice_get remote p.1))) (zip cs ds)) all in
+    and-true (can_pair (type_of (slice_get own c)) (type_of (slice_get remote d)))
+    (list_all (λ p. can_pair (type_of (slice_get own p.0)) (type_of (slice_get remote p.1))) (zip cs ds)) all in
     both_true
     (ap (λ a. can_pair a (column_type u d)) (own_types c) ∙ ap (can_pair (type_of (slice_get own c))) (remote_types d) ∙ here)
     (pairs_fit-zip t u own remote own_types remote_types cs ds (omega arith) rest)

@@ -30,7 +30,7 @@ if-Ok false x y e given = cc
 
 -- two steps, and what is made of their values
 two_steps : {A B C E : Type 0} (first : Result A E) (second : Result B E) (make : A → B → C) (y : C)
-  → (first >>= λ a. second >>= λ b. Ok (make a b)) ≡ Ok y → (a : A) × (b : B) × (first ≡ Ok a) × (second ≡ Ok b) × (make a b ≡ y)
+    → (first >>= λ a. second >>= λ b. Ok (make a b)) ≡ Ok y → (a : A) × (b : B) × (first ≡ Ok a) × (second ≡ Ok b) × (make a b ≡ y)
 two_steps (Ok a) (Ok b) make y given = (a, b, refl, refl, cc)
 two_steps (Ok a) (Err e) make y given = cc
 two_steps (Err e) second make y given = cc
@@ -38,8 +38,8 @@ two_steps (Err e) second make y given = cc
 -- three steps of which the last looks at the second, and a test of their values
 three_steps : {A B C D E : Type 0} (first : Result A E) (second : Result B E) (third : B → Result C E) (test : A → B → C → Bool)
     (make : A → B → C → D) (e : E) (y : D)
-  → (first >>= λ a. second >>= λ b. third b >>= λ c. cond (test a b c) (Ok (make a b c)) (Err e)) ≡ Ok y
-  → (a : A) × (b : B) × (c : C) × (second ≡ Ok b) × (test a b c ≡ true) × (make a b c ≡ y)
+    → (first >>= λ a. second >>= λ b. third b >>= λ c. cond (test a b c) (Ok (make a b c)) (Err e)) ≡ Ok y
+    → (a : A) × (b : B) × (c : C) × (second ≡ Ok b) × (test a b c ≡ true) × (make a b c ≡ y)
 three_steps (Ok a) (Ok b) third test make e y given =
     let (c, third_is, tested) = and_then-Ok (λ c. cond (test a b c) (Ok (make a b c)) (Err e)) (third b) y given in
     let (passed, made) = if-Ok (test a b c) (make a b c) y e tested in
@@ -76,9 +76,9 @@ foreign_key_of-Refers tables own key f (path, given) =
     let names = λ (t : WrittenTable). bytes_eq t.schema key.schema && bytes_eq t.name key.table in
     let make = λ (cs : List ℕ) (r : ℕ) (ds : List ℕ). let made : ForeignKey = record { columns = cs; remote = r; references = ds } in made in
     let (columns, remote, references, found, can, made) =
-        three_steps (each (column_named own) (at path field.Columns) key.columns) (table_named tables (at path field.Table) key)
-          (λ r. each (column_named (columns_at tables r)) (at path field.References) key.references)
-          (λ cs r ds. can_refer own (columns_at tables r) cs ds) make (Shape path) f given in
+    three_steps (each (column_named own) (at path field.Columns) key.columns) (table_named tables (at path field.Table) key)
+    (λ r. each (column_named (columns_at tables r)) (at path field.References) key.references)
+    (λ cs r ds. can_refer own (columns_at tables r) cs ds) make (Shape path) f given in
     let (table, there, named) = position-item names tables remote (ok_or-Ok (position names tables) (Shape (at path field.Table)) remote found) in
     subst (Refers tables own key) made (table, there, ap (λ cs. can_refer own cs columns references) (sym (ap columns_in there)) ∙ can)
 
@@ -94,11 +94,11 @@ table_of-Resolves : (tables : List WrittenTable) (w : WrittenTable) (t : Table) 
 unfolding table_of
 table_of-Resolves tables w t (path, given) =
     let make =
-        λ (key : List ℕ) (foreign : List ForeignKey). let made : Table = record
-          { schema = w.schema; name = w.name; columns = map (settled w.key) w.columns; key = key; foreign = foreign } in made in
+    λ (key : List ℕ) (foreign : List ForeignKey). let made : Table = record
+    { schema = w.schema; name = w.name; columns = map (settled w.key) w.columns; key = key; foreign = foreign } in made in
     let (key, foreign, key_is, foreign_is, made) =
-        two_steps (each (column_named w.columns) (at path field.PrimaryKey) w.key)
-          (each (foreign_key_of tables w.columns) (at path field.ForeignKeys) w.foreign) make t given in
+    two_steps (each (column_named w.columns) (at path field.PrimaryKey) w.key)
+    (each (foreign_key_of tables w.columns) (at path field.ForeignKeys) w.foreign) make t given in
     subst (Resolves tables w) made record {
       schema = refl;
       name = refl;
@@ -106,7 +106,7 @@ table_of-Resolves tables w t (path, given) =
       key = columns_named-Names w.columns (at path field.PrimaryKey) w.key key key_is;
       foreign =
           beside (Gave (foreign_key_of tables w.columns)) (Refers tables w.columns) (foreign_key_of-Refers tables w.columns) w.foreign
-            foreign (each_from-Ok (foreign_key_of tables w.columns) (at path field.ForeignKeys) 0 w.foreign foreign foreign_is);
+          foreign (each_from-Ok (foreign_key_of tables w.columns) (at path field.ForeignKeys) 0 w.foreign foreign foreign_is);
     }
 
 pub resolved-Resolves : (tables : List WrittenTable) (ts : List Table) → resolved tables ≡ Ok ts → AllZip (Resolves tables) tables ts

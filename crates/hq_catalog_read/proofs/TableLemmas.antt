@@ -43,7 +43,7 @@ next_length name names none =
     (not-false (is_catalog_name name) here, rest)
 
 column_lengths : (key : List (List ℕ)) (columns : List Column) → find (λ n. not (is_catalog_name n)) (map (λ c. c.name) columns) ≡ None
-  → list_all (λ c. is_catalog_name c.name) (map (settled key) columns) ≡ true
+    → list_all (λ c. is_catalog_name c.name) (map (settled key) columns) ≡ true
 column_lengths key [] none = refl
 column_lengths key (c ∷ cs) none =
     let (here, rest) = next_length c.name (map (λ d. d.name) cs) none in
@@ -58,7 +58,7 @@ columns_differ key columns none =
 
 -- what a foreign key was tested for
 can_refer-parts : (own remote : List Column) (cs ds : List ℕ) → can_refer own remote cs ds ≡ true
-  → (nat_lt 0 (length cs) ≡ true) × (length cs ≡ length ds)
+    → (nat_lt 0 (length cs) ≡ true) × (length cs ≡ length ds)
     × (list_all (λ p. can_pair (type_of (slice_get own p.0)) (type_of (slice_get remote p.1))) (zip cs ds) ≡ true)
 unfolding can_refer
 can_refer-parts own remote cs ds can =
@@ -69,7 +69,7 @@ can_refer-parts own remote cs ds can =
 
 -- a foreign key of the catalog fits
 foreign_key_holds : (ws : List WrittenTable) (ts : List Table) (w : WrittenTable) (t : Table) (key : WrittenForeignKey) (f : ForeignKey)
-  → AllZip (Resolves ws) ws ts → t.columns ≡ map (settled w.key) w.columns → Refers ws w.columns key f → is_foreign_key ts t f ≡ true
+    → AllZip (Resolves ws) ws ts → t.columns ≡ map (settled w.key) w.columns → Refers ws w.columns key f → is_foreign_key ts t f ≡ true
 foreign_key_holds ws ts w t key f all columns (remote, there, can) =
     let (u, beside, of_remote) = AllZip-item (Resolves ws) ws ts f.remote remote all there in
     let (some, same, fit) = can_refer-parts w.columns remote.columns f.columns f.references can in
@@ -82,8 +82,8 @@ foreign_key_holds ws ts w t key f all columns (remote, there, can) =
 
 foreign_keys_hold : (ws : List WrittenTable) (ts : List Table) (w : WrittenTable) (t : Table) (keys : List WrittenForeignKey)
     (fs : List ForeignKey)
-  → AllZip (Resolves ws) ws ts → t.columns ≡ map (settled w.key) w.columns → AllZip (Refers ws w.columns) keys fs
-  → list_all (is_foreign_key ts t) fs ≡ true
+    → AllZip (Resolves ws) ws ts → t.columns ≡ map (settled w.key) w.columns → AllZip (Refers ws w.columns) keys fs
+    → list_all (is_foreign_key ts t) fs ≡ true
 foreign_keys_hold ws ts w t [] [] all columns refer = refl
 foreign_keys_hold ws ts w t [] (f ∷ fs) all columns refer = absurd refer
 foreign_keys_hold ws ts w t (k ∷ ks) [] all columns refer = absurd refer
@@ -105,18 +105,18 @@ table_holds ws ts w t all passes of_written =
     let few : nat_le (length t.columns) 200 ≡ true = ap (λ n. nat_le n 200) how_many ∙ few_from-not_many 200 (length w.columns) passes.few_columns in
     let lengths : list_all (λ c. is_catalog_name c.name) t.columns ≡ true = ap (list_all (λ (c : Column). is_catalog_name c.name)) of_written.columns ∙ column_lengths w.key w.columns after_name in
     let differ : all_differ (λ c d. bytes_eq c.name d.name) t.columns ≡ true =
-        ap (all_differ (λ (c d : Column). bytes_eq c.name d.name)) of_written.columns ∙ columns_differ w.key w.columns columns_once in
+    ap (all_differ (λ (c d : Column). bytes_eq c.name d.name)) of_written.columns ∙ columns_differ w.key w.columns columns_once in
     let keyed : nat_lt 0 (length t.key) ≡ true = ap (nat_lt 0) how_long ∙ some_from-not_none (length w.key) passes.has_key in
     let key_differs : all_differ (λ c d. c == d) t.key ≡ true = places_differ w.columns w.key t.key of_written.key (first_repeat-None [] w.key key_once).1 in
     let no_null : list_all (λ c. holds_no_null (slice_get t.columns c)) t.key ≡ true =
-        ap (λ cs. list_all (λ c. holds_no_null (slice_get cs c)) t.key) of_written.columns
-          ∙ key_holds_no_null w.key w.columns t.key of_written.key in
+    ap (λ cs. list_all (λ c. holds_no_null (slice_get cs c)) t.key) of_written.columns
+    ∙ key_holds_no_null w.key w.columns t.key of_written.key in
     let foreign : list_all (is_foreign_key ts t) t.foreign ≡ true = foreign_keys_hold ws ts w t w.foreign t.foreign all of_written.columns of_written.foreign in
     both_true (both_true (both_true (both_true (both_true (both_true (both_true (both_true (both_true schema name) some) few) lengths) differ) keyed) key_differs) no_null) foreign
 
 pub tables_hold : (all_ws : List WrittenTable) (all_ts : List Table) (ws : List WrittenTable) (ts : List Table)
-  → AllZip (Resolves all_ws) all_ws all_ts → AllByRecursion Passes ws → AllZip (Resolves all_ws) ws ts
-  → list_all (is_table all_ts) ts ≡ true
+    → AllZip (Resolves all_ws) all_ws all_ts → AllByRecursion Passes ws → AllZip (Resolves all_ws) ws ts
+    → list_all (is_table all_ts) ts ≡ true
 tables_hold all_ws all_ts [] [] all pass resolve = refl
 tables_hold all_ws all_ts [] (t ∷ ts) all pass resolve = absurd resolve
 tables_hold all_ws all_ts (w ∷ ws) [] all pass resolve = absurd resolve

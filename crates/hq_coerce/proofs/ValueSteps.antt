@@ -12,7 +12,7 @@ use Rattle.hq_coerce.specs.declared.refusal.CoerceRefusal.{CoerceRefusal}
 
 -- a variable before the rest, and both behind what is done
 grown : (name : List ℕ) (o : Option JsonTree) (done : List VarTree) (rest : Result (List VarTree) CoerceRefusal)
-  → mapped (λ vs. done ++ vs) (mapped (with_value name o) rest) ≡ mapped (λ vs. (done ++ with_value name o []) ++ vs) rest
+    → mapped (λ vs. done ++ vs) (mapped (with_value name o) rest) ≡ mapped (λ vs. (done ++ with_value name o []) ++ vs) rest
 grown name None done (Ok vs) = ap (λ front. Ok (front ++ vs)) (sym (append-nil done))
 grown name (Some j) done (Ok vs) = ap Ok (sym (append_assoc done (record { name = name; value = j } ∷ []) vs))
 grown name o done (Err e) = refl
@@ -20,9 +20,9 @@ grown name o done (Err e) = refl
 -- one more variable has its value, or none
 pub values_more : (s : SchemaTree) (required : List ℕ → Bool) (given : List (List ℕ × JsonTree)) (defs : List VarDef) (i : ℕ) (x : VarDef)
     (o : Option JsonTree) (done more : List VarTree) (whole : Result (List VarTree) CoerceRefusal)
-  → whole ≡ mapped (λ vs. done ++ vs) (values_due s required given (map var_def_view (drop i defs))) → i < length defs → x ≡ get_or defs i x
-  → variable_due s required given (var_def_view x) ≡ Ok o → more ≡ done ++ with_value x.name o []
-  → whole ≡ mapped (λ vs. more ++ vs) (values_due s required given (map var_def_view (drop (i + 1) defs)))
+    → whole ≡ mapped (λ vs. done ++ vs) (values_due s required given (map var_def_view (drop i defs))) → i < length defs → x ≡ get_or defs i x
+    → variable_due s required given (var_def_view x) ≡ Ok o → more ≡ done ++ with_value x.name o []
+    → whole ≡ mapped (λ vs. more ++ vs) (values_due s required given (map var_def_view (drop (i + 1) defs)))
 values_more s required given defs i x o done more whole so_far below is due grows =
     let rest = values_due s required given (map var_def_view (drop (i + 1) defs)) in
     so_far
@@ -34,8 +34,8 @@ values_more s required given defs i x o done more whole so_far below is due grow
 -- a variable is refused, and so all are
 pub values_refused : (s : SchemaTree) (required : List ℕ → Bool) (given : List (List ℕ × JsonTree)) (defs : List VarDef) (i : ℕ)
     (x : VarDef) (e : CoerceRefusal) (done : List VarTree) (whole : Result (List VarTree) CoerceRefusal)
-  → whole ≡ mapped (λ vs. done ++ vs) (values_due s required given (map var_def_view (drop i defs))) → i < length defs → x ≡ get_or defs i x
-  → variable_due s required given (var_def_view x) ≡ Err e → whole ≡ Err e
+    → whole ≡ mapped (λ vs. done ++ vs) (values_due s required given (map var_def_view (drop i defs))) → i < length defs → x ≡ get_or defs i x
+    → variable_due s required given (var_def_view x) ≡ Err e → whole ≡ Err e
 values_refused s required given defs i x e done whole so_far below is due =
     let rest = values_due s required given (map var_def_view (drop (i + 1) defs)) in
     so_far

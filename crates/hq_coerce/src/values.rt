@@ -209,9 +209,9 @@ fn add_defaults(
     inputs: &[ArgDef],
 ) -> Result<(), Memory>
     ensures { OnOk result
-          (map member_view object.new.items
-             ≡ map member_view object.old.items
-               ++ filter_map (default_member (names_of (members_of (map member_view given.now)))) (map arg_view inputs.now)) }
+        (map member_view object.new.items
+        ≡ map member_view object.old.items
+        ++ filter_map (default_member (names_of (members_of (map member_view given.now)))) (map arg_view inputs.now)) }
 {
     for arg in inputs {
         if let Some(member) = default_member(alloc, given, arg)? {
@@ -280,10 +280,10 @@ fn coerce_list(
     ty: &TypeRef,
 ) -> Result<Option<Json>, Memory>
     ensures { IfOk result
-          (λ o. option_map json_view o
-             ≡ option_map (λ xs. arr (elements_of xs))
-               (option_and_then (coerced_elements (schema_view schema.now) (elements_of (map json_view elements.now.items)))
-                  (element_type (type_ref_view ty.now)))) }
+        (λ o. option_map json_view o
+        ≡ option_map (λ xs. arr (elements_of xs))
+        (option_and_then (coerced_elements (schema_view schema.now) (elements_of (map json_view elements.now.items)))
+        (element_type (type_ref_view ty.now)))) }
 {
     let Some(item) = element_type(ty) else {
         return Ok(None);
@@ -321,9 +321,9 @@ fn coerce_object(
     ty: &TypeRef,
 ) -> Result<Option<Json>, Memory>
     ensures { let s = schema_view schema.now in let ms = members_of (map member_view members.now.items) in IfOk result
-          (λ o. option_map json_view o
-             ≡ option_and_then (λ t. option_and_then (object_of (names_of ms) (inputs_at s t)) (coerced_members s ms t))
-               (input_at s (base (type_ref_view ty.now)))) }
+        (λ o. option_map json_view o
+        ≡ option_and_then (λ t. option_and_then (object_of (names_of ms) (inputs_at s t)) (coerced_members s ms t))
+        (input_at s (base (type_ref_view ty.now)))) }
 {
     let Some(input) = input_at(schema, ty.base()) else {
         return Ok(None);

@@ -105,7 +105,7 @@ fn typed_value(
     var_def: &VarDef,
 ) -> Result<Option<Json>, CoerceRefusal>
     ensures { let v = var_def_view var_def.now in Gives (option_map json_view) refusal.Memory
-          (value_due (schema_view schema.now) v.at required (type_ref_view ty.now) (given_value (map given_seen given.now) v)) result }
+        (value_due (schema_view schema.now) v.at required (type_ref_view ty.now) (given_value (map given_seen given.now) v)) result }
 {
     if let Some(json) = given_value(given, &var_def.name) {
         return coerced_value(alloc, schema, var_def.at, required, ty, json);

@@ -146,8 +146,8 @@ tree_agree (suc n) (suc l) m k r ss deep le wide w =
     let d : DocumentTree = r.document in
     let same : collect m r ss none ≡ collect k r ss none = collect_agree m k r wide ss none (wider (suc n) m d le ss w) in
     fields_agree n d (collected_down m n r) (collected_down k l r)
-      (λ ts v. tree_agree n l m k r ts (omega (arith, deep)) (omega (arith, le)) wide v) (collect m r ss none).groups
-      (collect_within m n r ss w)
+    (λ ts v. tree_agree n l m k r ts (omega (arith, deep)) (omega (arith, le)) wide v) (collect m r ss none).groups
+    (collect_within m n r ss w)
     ∙ ap (λ (c : Collected). fields_of (collected_down k l r) c.groups) same
 
 at_most : (a b : ℕ) → nat_le a b ≡ true → a ≤ b

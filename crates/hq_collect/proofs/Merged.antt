@@ -6,7 +6,7 @@ use Rattle.hq_collect.specs.Groups.{selections_under}
 
 -- two lists of selections are collected one after the other
 each_append : (inner : List SelectionTree → Collected → Collected) (r : Request) (ss ts : List SelectionTree) (c : Collected)
-  → collect_each inner r (ss ++ ts) c ≡ collect_each inner r ts (collect_each inner r ss c)
+    → collect_each inner r (ss ++ ts) c ≡ collect_each inner r ts (collect_each inner r ss c)
 each_append inner r [] ts c = refl
 each_append inner r (s ∷ ss) ts c = each_append inner r ss ts (collect_one inner r s c)
 

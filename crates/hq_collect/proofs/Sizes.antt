@@ -32,7 +32,7 @@ both_room deep n deep2 m levels left k None d e (inl h) = inl (omega (arith, h))
 both_room deep n deep2 m levels left k None d e (inr h) = inr (omega (arith, e, h))
 
 then_room : (deep n deep2 m levels left : ℕ) (o : Option ℕ) (next : ℕ → Option ℕ) → Room deep levels n left o
-  → ((k : ℕ) → Room deep2 levels m k (next k)) → Room (max deep deep2) levels (n + m) left (option_and_then next o)
+    → ((k : ℕ) → Room deep2 levels m k (next k)) → Room (max deep deep2) levels (n + m) left (option_and_then next o)
 then_room deep n deep2 m levels left (Some k) next h more = both_room deep n deep2 m levels left k (next k) h.0 h.1 (more k)
 then_room deep n deep2 m levels left None next (inl h) more = inl (omega (arith, h))
 then_room deep n deep2 m levels left None next (inr h) more = inr (omega (arith, h))
@@ -55,7 +55,7 @@ room_each : (n : ℕ) (d : DocumentTree) (inner : List SelectionTree → ℕ →
 room_each n d inner deep count told [] left = (omega arith, omega arith)
 room_each n d inner deep count told (s ∷ ss) left =
     then_room (suc (deep (inside d s))) (own_fields s + count (inside d s)) (most_of (λ s. suc (deep (inside d s))) ss)
-      (sum_of (λ s. own_fields s + count (inside d s)) ss) (suc n) left (left_in inner d s left) (left_of inner d ss)
+    (sum_of (λ s. own_fields s + count (inside d s)) ss) (suc n) left (left_in inner d s left) (left_of inner d ss)
     (shallow (suc (deep (inside d s))) (suc n) (own_fields s + count (inside d s)) left (left_in inner d s left)
     (then_room 0 (own_fields s) (suc (deep (inside d s))) (count (inside d s)) (suc n) left (less (own_fields s) left) (inner (inside d s)) (own_room (suc n) (own_fields s) left)
     (λ k. inner_room (deep (inside d s)) n (count (inside d s)) k (inner (inside d s) k) (told (inside d s) k))))
@@ -74,7 +74,7 @@ too_much a b h = elim (leb_tells a b) [ inl u ↦ let v : a ≤ b = u.1 in absur
 pub fits : (deep levels n left : ℕ) (o : Option ℕ) → Room deep levels n left o → is_some o ≡ (nat_le deep levels && nat_le n left)
 fits deep levels n left (Some k) h =
     let u : nat_le deep levels ≡ true = le-leb deep levels h.0 in let e : n + k ≡ left = h.1 in let v : nat_le n left
-      ≡ true = le-leb n left (omega (arith, e)) in rw (u, v) refl
+    ≡ true = le-leb n left (omega (arith, e)) in rw (u, v) refl
 fits deep levels n left None (inl h) = rw (too_much deep levels h) refl
 fits deep levels n left None (inr h) = by (nat_le deep levels)
   where

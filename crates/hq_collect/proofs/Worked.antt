@@ -44,8 +44,8 @@ request = record { document = document; vars = record { name = codes "v"; value 
 
 worked : collected_tree request selected ≡
     collected (codes "a") (head 2 (Some (codes "a")) (codes "author") [])
-      (collected (codes "id") (plain 14 (codes "id")) no_collected
-         (collected (codes "name") (plain 42 (codes "name")) no_collected no_collected))
+    (collected (codes "id") (plain 14 (codes "id")) no_collected
+    (collected (codes "name") (plain 42 (codes "name")) no_collected no_collected))
     (collected (codes "author") (plain 100 (codes "author")) (collected (codes "id") (plain 110 (codes "id")) no_collected no_collected) no_collected)
 unfolding collected_down collect is_included condition if_holds variable_holds
 worked = refl

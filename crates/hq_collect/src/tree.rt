@@ -98,8 +98,8 @@ fn below_more<'b, 'a>(
     nodes: &Nodes<'a>,
 ) -> Result<CollectedList<'a>, Memory>
     ensures { let r = request_seen request.now in IfOk result
-          (λ v. trees_of (map collected_view v.items)
-             ≡ fields_of (collected_down 50 levels r) (collect 50 r (merged (group_seen ([], nodes.now))) none).groups) }
+        (λ v. trees_of (map collected_view v.items)
+        ≡ fields_of (collected_down 50 levels r) (collect 50 r (merged (group_seen ([], nodes.now))) none).groups) }
 {
     let groups = collect_below(alloc, request, nodes)?;
     fields_of(alloc, request, levels, &groups)

@@ -30,7 +30,7 @@ next_line text_of length_of xs i x k lines more within joins =
 -- the same over a database, where it is told
 pub told_line_more : {W X : Type 0} (before now : Option W) (text_of : X → List ℕ) (length_of : W → List ℕ → ℕ) (xs : List X) (i : ℕ)
     (x : X) (k : ℕ) (all lines more : List ℕ)
-  → i < length xs → now ≡ before
+    → i < length xs → now ≡ before
     → IfSome before (λ d. lines ++ reply_lines (length_of d) k (map text_of (drop i xs)) ≡ all ++ reply_lines (length_of d) 1 (map text_of xs))
     → IfSome now (λ d. more ≡ lines ++ reply_line k (length_of d (text_of (get_or xs i x))))
     → IfSome before (λ d. more ++ reply_lines (length_of d) (k + 1) (map text_of (drop (i + 1) xs)) ≡ all ++ reply_lines (length_of d) 1 (map text_of xs))
@@ -43,7 +43,7 @@ told_line_more (Some d) (Some e) text_of length_of xs i x k all lines more withi
 -- the lines of all requests and of the steps
 pub told_lines : (engine : Engine) (session : Session) (database : Option (List (List Row))) (bodies : List (List ℕ))
     (start text whole : List ℕ) (steps : ℕ)
-  → session ≡ caller → bodies ≡ requests → start ≡ []
+    → session ≡ caller → bodies ≡ requests → start ≡ []
     → IfSome database (λ d. text ≡ start ++ reply_lines (reply_length engine.catalog.tables (meta_view engine.meta) session d) 1 bodies)
     → whole ≡ text ++ steps_line steps → IfSome database (λ d. (n : ℕ) × (whole ≡ lines_over engine.catalog.tables (meta_view engine.meta) d n))
 told_lines engine session None bodies start text whole steps same_session same_bodies empty told wrote = tt
@@ -60,7 +60,7 @@ told_lines engine session (Some d) bodies start text whole steps same_session sa
 -- the same by an engine over these contents
 pub lines_by : (engine : Engine) (database : Option (List (List Row))) (tables : List Table) (meta : MetaTree) (d : List (List Row))
     (whole : List ℕ)
-  → engine.catalog.tables ≡ tables → meta_view engine.meta ≡ meta → database ≡ Some d
+    → engine.catalog.tables ≡ tables → meta_view engine.meta ≡ meta → database ≡ Some d
     → IfSome database (λ e. (n : ℕ) × (whole ≡ lines_over engine.catalog.tables (meta_view engine.meta) e n)) → (n : ℕ) × (whole ≡ lines_over tables meta d n)
 lines_by engine database tables meta d whole same_tables same_meta same_rows told =
     let h = subst (λ (o : Option (List (List Row))). IfSome o (λ e. (n : ℕ) × (whole ≡ lines_over engine.catalog.tables (meta_view engine.meta) e n))) same_rows told in
@@ -68,7 +68,7 @@ lines_by engine database tables meta d whole same_tables same_meta same_rows tol
 
 -- lines over what is generated are those that are due
 pub generated_lines : (authors steps : ℕ) (tables : List Table) (meta : MetaTree) (d : List (List Row)) (text : List ℕ)
-  → tables ≡ generated_tables → meta ≡ metadata → d ≡ generated_rows authors → text ≡ lines_over tables meta d steps
+    → tables ≡ generated_tables → meta ≡ metadata → d ≡ generated_rows authors → text ≡ lines_over tables meta d steps
     → text ≡ lines_over generated_tables metadata (generated_rows authors) steps
 generated_lines authors steps tables meta d text same_tables same_meta same_rows h =
     h ∙ ap (λ (ts : List Table). lines_over ts meta d steps) same_tables
@@ -76,12 +76,12 @@ generated_lines authors steps tables meta d text same_tables same_meta same_rows
     ∙ ap (λ (r : List (List Row)). lines_over generated_tables metadata r steps) same_rows
 
 pub gen_wrote : (authors steps : ℕ) (old new : Option (List ℕ)) (text bytes : List ℕ)
-  → text ≡ lines_over generated_tables metadata (generated_rows authors) steps → bytes ≡ text → Appends old new bytes
-  → GenEnds authors old new (Ok Answered)
+    → text ≡ lines_over generated_tables metadata (generated_rows authors) steps → bytes ≡ text → Appends old new bytes
+    → GenEnds authors old new (Ok Answered)
 gen_wrote authors steps old new text bytes is same h = (steps, (gen_output authors steps, refl, refl, subst (λ (b : List ℕ). Appends old new b) (same ∙ is) h))
 
 pub gen_cut : (authors steps : ℕ) (old new : Option (List ℕ)) (text bytes : List ℕ) (a : Answer) → a ≡ Err refusal.WriteFailed
-  → text ≡ lines_over generated_tables metadata (generated_rows authors) steps → bytes ≡ text → AppendsPrefix old new bytes
+    → text ≡ lines_over generated_tables metadata (generated_rows authors) steps → bytes ≡ text → AppendsPrefix old new bytes
     → GenEnds authors old new a
 gen_cut authors steps old new text bytes a failed is same h = rw failed (steps, (gen_output authors steps, refl, subst (λ (b : List ℕ). AppendsPrefix old new b) (same ∙ is) h))
 

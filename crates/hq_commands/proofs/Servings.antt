@@ -33,7 +33,7 @@ loading_is e d memory failed (inr (inr h)) = h
 
 -- and so is a refused file to the program
 refused_due : (files : Option (List File)) (dir file : List ℕ) (fault : _)
-  → IfSome files
+    → IfSome files
     (λ fs. GivesUnless {X = Loaded} loaded_view loading.Memory loading.Failed (loading_due fs dir) (Err (loading.File file fault)))
     → IfSome files (λ fs. contents_due dir fs ≡ Err (refusal.File file fault))
 refused_due None dir file fault h = tt
@@ -51,7 +51,7 @@ module _ {L : Type 0} (t : Told L) (rule : SecretRule) (n : ℕ) (before after :
   -- a directory that is not loaded is not served
   pub load_refused : (files : Option (List File)) (dir : List ℕ) (e : LoadingRefusal) (a : Answer) → a ≡ Err (of_loading e)
       → IfSome files (λ fs. GivesUnless {X = Loaded} loaded_view loading.Memory loading.Failed (loading_due fs dir) (Err e))
-        → Untouched before after old new → ServeEnds t rule n before after old new files dir a
+      → Untouched before after old new → ServeEnds t rule n before after old new files dir a
   load_refused files dir (loading.File file fault) a is h u = rw is (u, refused_due files dir file fault h)
   load_refused files dir loading.Failed a is h u = rw is (inl u)
   load_refused files dir loading.Memory a is h u = rw is (inl u)

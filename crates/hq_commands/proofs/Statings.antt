@@ -24,12 +24,12 @@ abbrev answered_with : (bytes : List ℕ) → Result Output Refusal
 answered_with bytes = Ok (record { done = Answered; bytes = Some bytes })
 
 text_due : (tables : List Table) (meta : MetaTree) (r : Result AskTree RequestRefusal) (text : List ℕ) → text_for tables meta r ≡ Some text
-  → stated_output (text_for tables meta r) r ≡ answered_with (line_text text)
+    → stated_output (text_for tables meta r) r ≡ answered_with (line_text text)
 text_due tables meta (Ok ask) text h = ap (λ t. stated_output t (Ok ask)) h
 text_due tables meta (Err e) text h = absurd cc
 
 none_due : (tables : List Table) (meta : MetaTree) (r : Result AskTree RequestRefusal) → is_ok r ≡ true → text_for tables meta r ≡ None
-  → stated_output (text_for tables meta r) r ≡ answered_with (line_text (codes "none"))
+    → stated_output (text_for tables meta r) r ≡ answered_with (line_text (codes "none"))
 none_due tables meta (Ok ask) is h = ap (λ t. stated_output t (Ok ask)) h
 none_due tables meta (Err e) is h = absurd cc
 

@@ -16,7 +16,7 @@ use Rattle.hq_compile_lists.specs.SummaryTrees.{needed_rows_tree, folded_tree, s
 
 -- the rows of an aggregate
 pub needed_rows_of : (s : Schema) (g : Rights) (t n : ℕ) (a : ListArguments) (tie : PredTree) (cs : List ℕ) (f : SelectTree) (b : BodyTree)
-  (outs : List OutTree) (none : List JoinTree) (limit : Option ℕ)
+    (outs : List OutTree) (none : List JoinTree) (limit : Option ℕ)
     → f ≡ rows_tree s t n b outs none limit a.offset → b ≡ body_tree s g t a n tie → outs ≡ needed_outputs (own_look (table s t).columns n) cs → none ≡ [] → limit ≡ a.limit
     → f ≡ needed_rows_tree s g t a n tie cs
 unfolding needed_rows_tree
@@ -41,11 +41,11 @@ folded_of s gs t n a tie fs given out alias r o l =
 
 -- the one of both that is taken
 pub summary_folded : (s : Schema) (g : Rights) (t n : ℕ) (a : ListArguments) (tie : PredTree) (fs : List KeyedAggField)
-  → some_aggregate fs ≡ true → folded_tree fs s g t a n tie ≡ summary_tree fs s g t a n tie
+    → some_aggregate fs ≡ true → folded_tree fs s g t a n tie ≡ summary_tree fs s g t a n tie
 unfolding folded_tree summary_tree
 summary_folded s g t n a tie fs e = sym (ap (λ b. cond b (folded_select fs s g t a n tie) (plain_select fs s t n)) e)
 
 pub summary_plain : (s : Schema) (g : Rights) (t n : ℕ) (a : ListArguments) (tie : PredTree) (fs : List KeyedAggField)
-  → some_aggregate fs ≡ false → plain_select fs s t n ≡ summary_tree fs s g t a n tie
+    → some_aggregate fs ≡ false → plain_select fs s t n ≡ summary_tree fs s g t a n tie
 unfolding summary_tree
 summary_plain s g t n a tie fs e = sym (ap (λ b. cond b (folded_select fs s g t a n tie) (plain_select fs s t n)) e)

@@ -12,12 +12,14 @@ ghost use Rattle.hq_compile_tables.specs.Contexts.{context_schema, context_right
 ghost use Rattle.hq_compile_lists.specs.Bodies.{body_view, body_tree, parts_view, parts_tree, members_tree, array_tree, row_view, rows_tree, object_rows_tree, list_tree};
 
 use crate::row::{Row, object};
+use crate::{SortParts, list_sorts, output_orders, sort_parts};
 use hq_ask_tree::Args;
 use hq_base::{Memory, Txt};
-use hq_compile_tables::{Context, RowUse, fold_alias, row_limit, value_name, wide};
 use hq_compile_predicates::{row_members, where_predicate};
-use crate::{SortParts, list_sorts, output_orders, sort_parts};
-use hq_compile_tables::{compared_column, from_table, value_output, where_of, with_member};
+use hq_compile_tables::{
+    Context, RowUse, compared_column, fold_alias, from_table, row_limit, value_name, value_output,
+    where_of, wide, with_member,
+};
 use hq_sql_tree::{Agg, Expr, ExprList, JoinList, OrderList, Out, OutList, Pred, PredList, Select};
 use hq_terms::{ColId, Column, TableId};
 use std::alloc::Global;

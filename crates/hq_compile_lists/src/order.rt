@@ -13,9 +13,11 @@ ghost use Rattle.hq_compile_lists.specs.SortSteps.{step_view, step_tree, step_jo
 
 use crate::sorts::RowSort;
 use hq_base::Memory;
-use hq_compile_tables::{Context, fold_alias, key_name, take_number};
 use hq_compile_predicates::row_members;
-use hq_compile_tables::{column_at, first_row, is_text, link, one_join, value_at, value_output};
+use hq_compile_tables::{
+    Context, column_at, first_row, fold_alias, is_text, key_name, link, one_join, take_number,
+    value_at, value_output,
+};
 use hq_sql_tree::{Expr, JoinList, Order, OrderList, Out, OutList, PredList};
 use hq_terms::{ColId, RelId, TableId};
 use std::alloc::Global;

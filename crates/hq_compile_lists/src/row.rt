@@ -7,8 +7,7 @@ ghost use Rattle.hq_compiled.specs.Masks.{value_output};
 ghost use Rattle.hq_compiled.specs.Names.{table_alias};
 
 use hq_base::{Memory, Txt};
-use hq_compile_tables::table_alias;
-use hq_compile_tables::value_output;
+use hq_compile_tables::{table_alias, value_output};
 use hq_sql_tree::{Expr, ExprPairList, From, JoinList, OutList, Pred, Select};
 use std::alloc::Global;
 

@@ -15,8 +15,7 @@ ghost use Rattle.hq_compile_lists.specs.Starts.{start_origin, start_table, start
 
 use hq_ask_tree::Args;
 use hq_base::{Memory, Val};
-use hq_compile_tables::{Context, take_number};
-use hq_compile_tables::{compared_column, joined_by_and, link, literal};
+use hq_compile_tables::{Context, compared_column, joined_by_and, link, literal, take_number};
 use hq_sql_tree::{Pred, PredList};
 use hq_terms::{ColId, Column, Op, RelId, TableId};
 use std::alloc::Global;

@@ -14,13 +14,12 @@ ghost use Rattle.hq_compile_lists.specs.SummaryTrees.{needed_rows_tree, folded_t
 ghost use Rattle.hq_compile_lists.specs.Takings.{taking_of};
 
 use crate::needs::{needed, place_of, some_aggregate};
+use crate::{ListStart, fold, list_body, list_rows, list_tie, object, one_row};
 use hq_ask_tree::{AggCol, AggField, KeyedAggCol, KeyedAggField};
 use hq_base::Memory;
 use hq_compile_tables::{
-    Context, RowUse, fold_alias, needed_name, row_limit, unit_name, value_name,
+    Context, RowUse, fold_alias, is_text, needed_name, own_column, row_limit, unit_name, value_name,
 };
-use crate::{ListStart, fold, list_body, list_rows, list_tie, object, one_row};
-use hq_compile_tables::{is_text, own_column};
 use hq_sql_tree::{Agg, Expr, ExprPair, ExprPairList, Out, OutList, Select};
 use hq_terms::{ColId, Column, TableId};
 use std::alloc::Global;

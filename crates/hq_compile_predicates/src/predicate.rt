@@ -12,10 +12,9 @@ ghost use Rattle.hq_compile_tables.specs.Selects.{exists_where};
 ghost use Rattle.hq_compile_predicates.specs.Unmasked.{unmasked, own_predicate, own_predicates};
 
 use hq_base::Memory;
-use hq_compile_tables::{Context, take_number};
 use hq_compile_tables::{
-    comparison, exists_where, first_member, is_null, joined_by_and, joined_by_or, like, link,
-    negation, with_member, within,
+    Context, comparison, exists_where, first_member, is_null, joined_by_and, joined_by_or, like,
+    link, negation, take_number, with_member, within,
 };
 use hq_sql_tree::{Pred, PredList};
 use hq_terms::{Bexp, BexpList, RelId, TableId};

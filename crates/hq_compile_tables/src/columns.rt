@@ -5,8 +5,8 @@ ghost use Rattle.hq_sql_tree.specs.View.{expr_view};
 ghost use Rattle.hq_compiled.specs.Looks.{name_of, is_text_column, own_look, cell_at, compared_at};
 ghost use Rattle.hq_compiled.specs.Masks.{value_place};
 
-use hq_base::{Memory, Txt, Ty};
 use crate::{join_alias, table_alias, value_name};
+use hq_base::{Memory, Txt, Ty};
 use hq_sql_tree::Expr;
 use hq_terms::{ColId, Column};
 use std::alloc::Global;

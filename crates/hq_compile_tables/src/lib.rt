@@ -13,11 +13,11 @@ pub use condition::{
     comparison, first_member, is_null, joined_by_and, joined_by_or, like, literal, negation,
     where_of, with_member, within,
 };
-pub use table::{
-    exists_where, first_row, first_select, from_table, key_orders, link, one_join, value_output,
-};
 pub use context::{Context, Granted, GrantedList};
 pub use limit::{RowUse, row_limit, wide};
 pub use names::{
     fold_alias, join_alias, key_name, needed_name, table_alias, take_number, unit_name, value_name,
+};
+pub use table::{
+    exists_where, first_row, first_select, from_table, key_orders, link, one_join, value_output,
 };

@@ -15,8 +15,8 @@ ghost use Rattle.hq_compile_tables.specs.Selects.{exists_where, first_row};
 
 use crate::columns::compared_column;
 use crate::condition::{joined_by_and, where_of};
-use hq_base::{Memory, Txt};
 use crate::{Context, join_alias, table_alias, unit_name, value_name};
+use hq_base::{Memory, Txt};
 use hq_sql_tree::{
     Expr, From, Join, JoinList, Order, OrderList, Out, OutList, Pred, PredList, Select,
 };

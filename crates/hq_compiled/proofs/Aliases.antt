@@ -187,7 +187,7 @@ of_two : (a b : PredTree) (l : Texts) → ((k : Texts) → aliases_in_pred a k �
 of_two a b l none = of_where (with_member a (with_member b [])) l ∙ (of_member a (with_member b []) l ∙ (none (lists_in (with_member b []) l) ∙ of_member b [] l))
 
 of_three : (a b c : PredTree) (l : Texts) → ((k : Texts) → aliases_in_pred a k ≡ k)
-  → aliases_in_filter (where_of (with_member a (with_member b (with_member c [])))) l ≡ aliases_in_pred b (aliases_in_pred c l)
+    → aliases_in_filter (where_of (with_member a (with_member b (with_member c [])))) l ≡ aliases_in_pred b (aliases_in_pred c l)
 of_three a b c l none =
     of_where (with_member a (with_member b (with_member c []))) l
     ∙ (of_member a (with_member b (with_member c [])) l ∙ (none (lists_in (with_member b (with_member c [])) l) ∙ (of_member b (with_member c []) l ∙ ap (aliases_in_pred b) (of_member c [] l))))
@@ -243,7 +243,7 @@ joins_last lo hi J j l = ap (λ k. aliases_in_joins (joins_of k) l) (sym (append
 
 -- the join of a select that binds its own alias and then F
 join_one : (n top : ℕ) (s : SelectTree) (F : Texts → Texts) → n < top → top ≤ 2 ^ 64 → ((l : Texts) → aliases_in s l ≡ table_alias n ∷ F l)
-  → Binds (n + 1) top F → JoinsBind n top (record { select = s; alias = join_alias n } ∷ [])
+    → Binds (n + 1) top F → JoinsBind n top (record { select = s; alias = join_alias n } ∷ [])
 join_one n top s F lt bound e f = record {
   front = λ l. join_alias n ∷ (table_alias n ∷ F l);
   is = λ js l. ap (λ k. join_alias n ∷ k) (e (aliases_in_joins (joins_of js) l));
@@ -251,8 +251,8 @@ join_one n top s F lt bound e f = record {
 }
 
 join_folded : (n top : ℕ) (s : SelectTree) (F : Texts → Texts) → n < top → top ≤ 2 ^ 64
-  → ((l : Texts) → aliases_in s l ≡ fold_alias n ∷ (table_alias n ∷ F l)) → Binds (n + 1) top F
-  → JoinsBind n top (record { select = s; alias = join_alias n } ∷ [])
+    → ((l : Texts) → aliases_in s l ≡ fold_alias n ∷ (table_alias n ∷ F l)) → Binds (n + 1) top F
+    → JoinsBind n top (record { select = s; alias = join_alias n } ∷ [])
 join_folded n top s F lt bound e f = record {
   front = λ l. join_alias n ∷ (fold_alias n ∷ (table_alias n ∷ F l));
   is = λ js l. ap (λ k. join_alias n ∷ k) (e (aliases_in_joins (joins_of js) l));
@@ -290,8 +290,8 @@ module _ (s : Schema) (m : Mode) (ok : ModeBinds m) where
         let X : Texts → Texts = aliases_in_pred inner in
         let L : PredTree = link s t (rel s t r) p n in
         let kept =
-            binds_then from mid hi G X (omega arith) (omega arith) (ok.guarded u n from (omega arith))
-              (binds_wider mid (mid + numbers b s m u) hi X (omega arith) (predicate_binds b (m.look u cs n) u n mid (omega arith))) in
+        binds_then from mid hi G X (omega arith) (omega arith) (ok.guarded u n from (omega arith))
+        (binds_wider mid (mid + numbers b s m u) hi X (omega arith) (predicate_binds b (m.look u cs n) u n mid (omega arith))) in
         let rest = binds_then (n + 1) from hi M.front (λ l. G (X l)) (omega arith) (omega arith) M.binds kept in
         binds_as n hi (λ l. table_alias n ∷ M.front (G (X l))) (aliases_in_pred (predicate (through r b) s m look t p n))
         (λ l. ap (λ k. table_alias n ∷ k) (joins_last (n + 1) from (m.joins u cs n) M (aliases_in_filter (where_of (with_member L (with_member (m.guard u n from) (with_member inner [])))) l)
@@ -320,8 +320,8 @@ module _ (s : Schema) where
       let mid : ℕ = n + (1 + own_numbers m.shown s t) in
       let pred : PredTree = own_predicate m.shown s t p (n + 1) in
       joins_then n mid (mid + mask_numbers ms s t) (n + mask_numbers (m ∷ ms) s t)
-        (record { select = mask_select m s t p n; alias = join_alias n } ∷ []) (mask_joins ms s t p mid) (omega arith) (omega arith)
-        (omega arith)
+      (record { select = mask_select m s t p n; alias = join_alias n } ∷ []) (mask_joins ms s t p mid) (omega arith) (omega arith)
+      (omega arith)
       (join_one n mid (mask_select m s t p n) (aliases_in_pred pred) (omega arith) (omega arith) (λ l. ap (λ k. table_alias n ∷ k) (of_one pred l))
       (binds_wider (n + 1) (n + 1 + own_numbers m.shown s t) mid (aliases_in_pred pred) (omega arith) (own_binds m.shown t p (n + 1) (omega arith))))
       (masks_bind ms t p mid (omega arith))
@@ -339,8 +339,8 @@ module _ (s : Schema) where
     -- ---- selects
 
     first_binds : (u n top : ℕ) (cs : List ℕ) (tie : PredTree) (value : ExprTree) (J : List JoinTree)
-      → ((l : Texts) → aliases_in_pred tie l ≡ l) → behind_filter s g u cs n ≤ top → top ≤ 2 ^ 64
-      → JoinsBind (behind_filter s g u cs n) top J
+        → ((l : Texts) → aliases_in_pred tie l ≡ l) → behind_filter s g u cs n ≤ top → top ≤ 2 ^ 64
+        → JoinsBind (behind_filter s g u cs n) top J
         → JoinsBind n top (record { select = first_select s u n tie (filter_predicate s g u n (filter_from s g u cs n)) value (masks s g u cs n ++ J); alias = join_alias n } ∷ [])
     first_binds u n top cs tie value J none le bound inner =
         let from : ℕ = filter_from s g u cs n in
@@ -373,21 +373,21 @@ module _ (s : Schema) where
     sorts_bind (k ∷ ks) t p n bound =
         let mid : ℕ = n + sort_numbers k.key.through s g t k.key.column in
         joins_then n mid (mid + sorts_numbers ks s g t) (n + sorts_numbers (k ∷ ks) s g t) (sort_joins k.key.through s g t p n k.key.column)
-          (sorts_joins ks s g t p mid) (omega arith) (omega arith) (omega arith)
+        (sorts_joins ks s g t p mid) (omega arith) (omega arith) (omega arith)
         (sort_binds k.key.through t p n k.key.column (omega arith)) (sorts_bind ks t p mid (omega arith))
 
     -- the aliases behind a list's own: masks, sorts and children in front of filter and `where`
     list_binds : (u n top : ℕ) (cs : List ℕ) (a : ListArguments) (tie : PredTree) (C : List JoinTree)
-      → ((l : Texts) → aliases_in_pred tie l ≡ l) → children_from s g u cs a n ≤ top → top ≤ 2 ^ 64
-      → JoinsBind (children_from s g u cs a n) top C
+        → ((l : Texts) → aliases_in_pred tie l ≡ l) → children_from s g u cs a n ≤ top → top ≤ 2 ^ 64
+        → JoinsBind (children_from s g u cs a n) top C
         → (F : Texts → Texts) × (((l : Texts) → aliases_in_joins (joins_of (masks s g u cs n ++ (sorts_joins (list_sorts s u a) s g u n (sorts_from s g u cs a n) ++ C)))
         (aliases_in_filter
-             (where_of
-                (with_member tie
-                   (with_member (filter_predicate s g u n (filter_from s g u cs n))
-                      (with_member (predicate a.wanted s (where_mode s g) (shown_look s g u cs n) u n (behind_filter s g u cs n)) []))))
-             l)
-          ≡ F l)
+        (where_of
+        (with_member tie
+        (with_member (filter_predicate s g u n (filter_from s g u cs n))
+        (with_member (predicate a.wanted s (where_mode s g) (shown_look s g u cs n) u n (behind_filter s g u cs n)) []))))
+        l)
+        ≡ F l)
         × Binds (n + 1) top F)
     list_binds u n top cs a tie C none le bound inner =
         let from : ℕ = filter_from s g u cs n in
@@ -401,23 +401,23 @@ module _ (s : Schema) where
         let later = joins_then sorts kids top top (sorts_joins (list_sorts s u a) s g u n sorts) C (omega arith) le (omega arith)
         (record { front = S.front; is = S.is; binds = binds_wider sorts (sorts + sorts_numbers (list_sorts s u a) s g u) kids S.front (omega arith) S.binds }) inner in
         let conditions =
-            binds_then from mid sorts (aliases_in_pred A) (aliases_in_pred B) (omega arith) (omega arith)
-              (own_binds (g.filter u) u n from (omega arith)) (wanted_binds a.wanted (shown_look s g u cs n) u n mid (omega arith)) in
+        binds_then from mid sorts (aliases_in_pred A) (aliases_in_pred B) (omega arith) (omega arith)
+        (own_binds (g.filter u) u n from (omega arith)) (wanted_binds a.wanted (shown_look s g u cs n) u n mid (omega arith)) in
         let back = binds_back from sorts top (λ l. aliases_in_pred A (aliases_in_pred B l)) later.front (omega arith) (omega arith) bound conditions later.binds in (
           λ l. M.front (later.front (aliases_in_pred A (aliases_in_pred B l))),
           (
             λ l.
                 M.is (sorts_joins (list_sorts s u a) s g u n sorts ++ C) (aliases_in_filter (where_of (with_member tie (with_member A (with_member B [])))) l)
                 ∙ ap M.front
-                  (joins_last sorts top (sorts_joins (list_sorts s u a) s g u n sorts ++ C) later
-                       (aliases_in_filter (where_of (with_member tie (with_member A (with_member B [])))) l)
-                     ∙ ap later.front (of_three tie A B l none)),
+                (joins_last sorts top (sorts_joins (list_sorts s u a) s g u n sorts ++ C) later
+                (aliases_in_filter (where_of (with_member tie (with_member A (with_member B [])))) l)
+                ∙ ap later.front (of_three tie A B l none)),
             binds_then (n + 1) from top M.front (λ l. later.front (aliases_in_pred A (aliases_in_pred B l))) (omega arith) (omega arith) M.binds back,
           ),
         )
 
     summary_bind : (fs : List _) (o : Origin) (a : ListArguments) (t p n : ℕ) → n + summary_numbers fs s g (origin_table o s t) a ≤ 2 ^ 64
-      → JoinsBind n (n + summary_numbers fs s g (origin_table o s t) a) (part_joins (summary fs) s g o t p a n)
+        → JoinsBind n (n + summary_numbers fs s g (origin_table o s t) a) (part_joins (summary fs) s g o t p a n)
     summary_bind fs o a t p n bound =
         let u : ℕ = origin_table o s t in
         let cs : List ℕ = summary_used s u a fs in
@@ -478,31 +478,31 @@ module _ (s : Schema) where
           let top : ℕ = n + field_numbers (by_key u key fs) s g t in
           let inner = fields_bind fs u n from (omega arith) in
           first_binds u n top cs (joined_by_and (key_members (table s u).columns (shown_look s g u cs n) (table s u).key key)) _
-            (fields_joins fs s g u n from) (key_none (table s u).columns (shown_look s g u cs n) (table s u).key key) (omega arith) bound
+          (fields_joins fs s g u n from) (key_none (table s u).columns (shown_look s g u cs n) (table s u).key key) (omega arith) bound
           (record { front = inner.front; is = inner.is; binds = binds_wider from (from + fields_numbers fs s g u) top inner.front (omega arith) inner.binds })
       field_binds (aggregate o a ps) t p n bound =
           let top : ℕ = n + field_numbers (aggregate o a ps) s g t in
           let inner = parts_bind ps o t p a (n + 1) (omega arith) in
           join_one n top _ inner.front (omega arith) bound
-            (λ l. ap (λ k. table_alias n ∷ k)
-               (joins_last (n + 1) (n + 1 + parts_numbers ps s g (origin_table o s t) a) (parts_joins ps s g o t p a (n + 1)) inner l))
+          (λ l. ap (λ k. table_alias n ∷ k)
+          (joins_last (n + 1) (n + 1 + parts_numbers ps s g (origin_table o s t) a) (parts_joins ps s g o t p a (n + 1)) inner l))
           (binds_wider (n + 1) (n + 1 + parts_numbers ps s g (origin_table o s t) a) top inner.front (omega arith) inner.binds)
       field_binds (introspect f) t p n bound = join_one n (n + 1) (empty_select n) (λ l. l) (omega arith) bound (λ l. refl) (binds_none (n + 1) (n + 1))
 
       parts_bind : (ps : PartTrees) (o : Origin) (t p : ℕ) (a : ListArguments) (n : ℕ)
-        → n + parts_numbers ps s g (origin_table o s t) a ≤ 2 ^ 64
-        → JoinsBind n (n + parts_numbers ps s g (origin_table o s t) a) (parts_joins ps s g o t p a n)
+          → n + parts_numbers ps s g (origin_table o s t) a ≤ 2 ^ 64
+          → JoinsBind n (n + parts_numbers ps s g (origin_table o s t) a) (parts_joins ps s g o t p a n)
       parts_bind no_part o t p a n bound = joins_none n (n + 0)
       parts_bind (part key q ps) o t p a n bound =
           let u : ℕ = origin_table o s t in
           let mid : ℕ = n + part_numbers q s g u a in
           joins_then n mid (mid + parts_numbers ps s g u a) (n + parts_numbers (part key q ps) s g u a) (part_joins q s g o t p a n)
-            (parts_joins ps s g o t p a mid) (omega arith) (omega arith) (omega arith)
+          (parts_joins ps s g o t p a mid) (omega arith) (omega arith) (omega arith)
           (part_binds q o t p a n (omega arith)) (parts_bind ps o t p a mid (omega arith))
 
       part_binds : (q : PartTree) (o : Origin) (t p : ℕ) (a : ListArguments) (n : ℕ)
-        → n + part_numbers q s g (origin_table o s t) a ≤ 2 ^ 64
-        → JoinsBind n (n + part_numbers q s g (origin_table o s t) a) (part_joins q s g o t p a n)
+          → n + part_numbers q s g (origin_table o s t) a ≤ 2 ^ 64
+          → JoinsBind n (n + part_numbers q s g (origin_table o s t) a) (part_joins q s g o t p a n)
       part_binds (summary fs) o t p a n bound = summary_bind fs o a t p n bound
       part_binds (nodes fs) o t p a n bound = list_field_binds o a fs t p n bound (λ m small. fields_bind fs (origin_table o s t) n m small)
       part_binds (part_typename name) o t p a n bound = joins_none n (n + 0)

@@ -44,7 +44,7 @@ each_offset P (Some n) xs h = each_drop P n xs h
 -- What a select of table u at the alias of number n does with each row: X is the scope behind the joins, test whether the row
 -- is kept, R the order.
 pub record Rowwise (s : Schema) (w : World) (u n : ℕ) (scope : Scope) (js : List JoinTree) (condition : FilterTree) (keys : List OrderTree)
-  (X : Row → Scope) (test : Row → Bool) (R : Row → Row → Ordering) : Type 0 where
+    (X : Row → Scope) (test : Row → Bool) (R : Row → Row → Ordering) : Type 0 where
   pub joins : (r : Row) → Narrow s u r → joined (joins_of js) w (at_row s u n scope r) ≡ X r ∷ []
   pub keeps : (r : Row) → Narrow s u r → kept condition w (X r) ≡ test r
   pub ordered : (x y : Row) → Narrow s u x → Narrow s u y → order_cmp keys (X x) (X y) ≡ R x y
@@ -54,7 +54,7 @@ abbrev pub sorted_rows : List (List Row) → (u : ℕ) → (Row → Row → Orde
 sorted_rows d u R test = sort R (filter test (table_rows d u))
 
 module _ (s : Schema) (tables : List Table) (d : List (List Row)) (sound : Sound s tables d) (u n : ℕ) (scope : Scope) (js : List JoinTree)
-  (condition : FilterTree) (keys : List OrderTree) (X : Row → Scope) (test : Row → Bool) (R : Row → Row → Ordering)
+    (condition : FilterTree) (keys : List OrderTree) (X : Row → Scope) (test : Row → Bool) (R : Row → Row → Ordering)
     (h : Rowwise s (record { tables = tables; database = d }) u n scope js condition keys X test R) where
   abbrev w : World
   w = record { tables = tables; database = d }
@@ -64,8 +64,8 @@ module _ (s : Schema) (tables : List Table) (d : List (List Row)) (sound : Sound
 
   -- group gives the rows that DISTINCT ON leaves
   pub body_rows : (distinct : List ExprTree) (group : List Row → List Row)
-    → ((l : List Row) → Each (Narrow s u) l → distinct_on distinct (map X l) ≡ map X (group l))
-    → (outs : List OutTree) (limit offset : Option ℕ)
+      → ((l : List Row) → Each (Narrow s u) l → distinct_on distinct (map X l) ≡ map X (group l))
+      → (outs : List OutTree) (limit offset : Option ℕ)
       → rows_of (rows distinct outs (from_table (table s u).schema (table s u).name (table_alias n)) (joins_of js) condition keys limit offset) w scope
       ≡ map (λ r. outputs outs [] (X r)) (limited limit (offset_by offset (group (sorted_rows d u R test))))
   body_rows distinct group grouped outs limit offset =

@@ -27,7 +27,7 @@ abbrev pub FineTables : Schema → Rights → List Table → Type 0
 FineTables s g tables = (t : ℕ) → Known s t → FineTable s g tables t
 
 names_at : (tables : List Table) (t : ℕ) → Each IsNamed tables → all_differ same_full tables ≡ true → t < length tables
-  → table_names tables (table_at tables t).schema (table_at tables t).name ≡ kinds_of (table_at tables t).columns
+    → table_names tables (table_at tables t).schema (table_at tables t).name ≡ kinds_of (table_at tables t).columns
 names_at [] t n h lt = absurd (omega arith)
 names_at (x ∷ tables) zero n h lt = rw (same_text x.schema, same_text x.name) refl
 names_at (x ∷ tables) (suc t) n h lt =
@@ -35,7 +35,7 @@ names_at (x ∷ tables) (suc t) n h lt =
     rw (other_table x tables t n.0 (negated _ parts.0)) (names_at tables t n.1 parts.1 (omega arith))
 
 found_at : (tables : List Table) (t : ℕ) → Each IsNamed tables → all_differ same_full tables ≡ true → t < length tables
-  → list_any (is_table (table_at tables t).schema (table_at tables t).name) tables ≡ true
+    → list_any (is_table (table_at tables t).schema (table_at tables t).name) tables ≡ true
 found_at [] t n h lt = absurd (omega arith)
 found_at (x ∷ tables) zero n h lt = rw (same_text x.schema, same_text x.name) refl
 found_at (x ∷ tables) (suc t) n h lt =
@@ -52,7 +52,7 @@ numbered_length f k [] = refl
 numbered_length f k (x ∷ xs) = ap suc (numbered_length f (suc k) xs)
 
 pub fine_tables : (tables : List Table) (meta : MetaTree) (g : Rights) → is_catalog tables ≡ true
-  → ((t : ℕ) → Known (schema_of tables meta) t → FineRights (schema_of tables meta) g t) → FineTables (schema_of tables meta) g tables
+    → ((t : ℕ) → Known (schema_of tables meta) t → FineRights (schema_of tables meta) g t) → FineTables (schema_of tables meta) g tables
 fine_tables tables meta g c rights t known =
     let parts = both _ _ c in
     let n = named_tables tables tables parts.1 in

@@ -48,8 +48,8 @@ abbrev Covered : (front : List ℕ) → (n : ℕ) → List SortKey → ℕ → B
 Covered front n ks c = is_used c front || list_any (λ k. k.column == c) (take n ks)
 
 begun : (distinct front : List ℕ) (n : ℕ) (ks : List SortKey)
-  → list_all (λ k. is_plain_sort k && is_used k.column distinct) (take n ks) ≡ true → list_all (Covered front n ks) distinct ≡ true
-  → begin_columns distinct front ks ≡ true
+    → list_all (λ k. is_plain_sort k && is_used k.column distinct) (take n ks) ≡ true → list_all (Covered front n ks) distinct ≡ true
+    → begin_columns distinct front ks ≡ true
 begun distinct front zero [] plain covered = all_weaken (Covered front zero []) (λ c. is_used c front) distinct (λ c h. or_false (is_used c front) h) covered
 begun distinct front (suc n) [] plain covered = all_weaken (Covered front (suc n) []) (λ c. is_used c front) distinct (λ c h. or_false (is_used c front) h) covered
 begun distinct front zero (k ∷ ks) plain covered =
@@ -59,14 +59,14 @@ begun distinct front (suc n) (k ∷ ks) plain covered =
     let here = and_parts (is_plain_sort k) (is_used k.column distinct) parts.0 in
     let next : list_all (Covered (k.column ∷ front) n ks) distinct ≡ true = all_weaken (Covered front (suc n) (k ∷ ks)) (Covered (k.column ∷ front) n ks) distinct
     (λ c h. subst (λ b. ((b || is_used c front) || list_any (λ j. j.column == c) (take n ks)) ≡ true) (same_sym k.column c)
-         (moved (is_used c front) (k.column == c) (list_any (λ j. j.column == c) (take n ks)) h))
-      covered in
+    (moved (is_used c front) (k.column == c) (list_any (λ j. j.column == c) (take n ks)) h))
+    covered in
     let later : ((length k.through == 0) && is_used k.column distinct && begin_columns distinct (k.column ∷ front) ks) ≡ true =
     rw (here.0, here.1) (begun distinct (k.column ∷ front) n ks parts.1 next) in
     or_true (list_all (λ c. is_used c front) distinct) ((length k.through == 0) && is_used k.column distinct && begin_columns distinct (k.column ∷ front) ks) later
 
 plain_used : (distinct : List ℕ) (ks : List SortKey) → list_all (λ k. is_plain_sort k && list_any (λ c. c == k.column) distinct) ks ≡ true
-  → list_all (λ k. is_plain_sort k && is_used k.column distinct) ks ≡ true
+    → list_all (λ k. is_plain_sort k && is_used k.column distinct) ks ≡ true
 plain_used distinct ks h =
     all_weaken (λ k. is_plain_sort k && list_any (λ c. c == k.column) distinct) (λ k. is_plain_sort k && is_used k.column distinct) ks
     (λ k g. subst (λ b. (is_plain_sort k && b) ≡ true) (among_used k.column distinct) g) h

@@ -30,7 +30,7 @@ first_named_value (c ∷ cs) = rw (same_text value_name) refl
 module _ (s : Schema) (w : World) where
   -- no further join stands behind them
   pub goes_last : {J : List JoinTree} {t p n k : ℕ} {F : Row → Scope → Scope} → Extends s w J t p n k F → (scope : Scope) (row : Row)
-    → Shows s scope t p row → joined (joins_of J) w scope ≡ F row scope ∷ []
+      → Shows s scope t p row → joined (joins_of J) w scope ≡ F row scope ∷ []
   goes_last {J} x scope row h = ap (λ js. joined (joins_of js) w scope) (sym (append-nil J)) ∙ x.goes scope row [] h
 
   pub extends_none : (t p n : ℕ) → Extends s w [] t p n 0 (λ row scope. scope)
@@ -39,7 +39,7 @@ module _ (s : Schema) (w : World) where
   -- a row that a table alias shows is shown behind the joins too
   pub shows_kept : {J : List JoinTree} {t p n k : ℕ} {F : Row → Scope → Scope} (x : Extends s w J t p n k F) (scope : Scope) (row : Row)
       (u q : ℕ) (r : Row)
-    → Shows s scope u q r → Shows s (F row scope) u q r
+      → Shows s scope u q r → Shows s (F row scope) u q r
   shows_kept x scope row u q r h c = rw (x.keeps scope row (table_alias q) (λ m a b. join_is_no_table m q)) (h c)
 
   -- two groups of joins, perhaps with numbers between them
@@ -55,7 +55,7 @@ module _ (s : Schema) (w : World) where
 
   -- side by side
   pub extends_then : (J H : List JoinTree) (t p n k l : ℕ) (F G : Row → Scope → Scope) → Extends s w J t p n k F
-    → Extends s w H t p (n + k) l G → Extends s w (J ++ H) t p n (k + l) (λ row scope. G row (F row scope))
+      → Extends s w H t p (n + k) l G → Extends s w (J ++ H) t p n (k + l) (λ row scope. G row (F row scope))
   extends_then J H t p n k l F G a b = extends_apart J H t p n k (n + k) l (k + l) F G (omega arith) (omega arith) a b
 
   -- one join, of a select that gives one row or NULLs

@@ -61,7 +61,7 @@ pattern_fine (Session name) h g = absurd (false≢true g)
 -- ---- columns whose type passes a test
 
 pub of_column : (P : Ty → Type 0) (test : Ty → Bool) (s : Schema) (t c : ℕ) → ((ty : Ty) → test ty ≡ true → P ty)
-  → of_type test (column_ty s t c) ≡ true → (ty : Ty) × (column_ty s t c ≡ Some ty) × P ty
+    → of_type test (column_ty s t c) ≡ true → (ty : Ty) × (column_ty s t c ≡ Some ty) × P ty
 of_column P test s t c step h =
     let by : (o : Option Ty) → column_ty s t c ≡ o → of_type test o ≡ true → (ty : Ty) × (column_ty s t c ≡ Some ty) × P ty =
     elim [ None ↦ λ is g. absurd (false≢true g) | Some ty ↦ λ is g. (ty, is, step ty g) ] in

@@ -100,7 +100,7 @@ module _ (tables : List Table) (m : MetaTree) (fitting : fits tables m ≡ true)
   -- ---- lists and keys
 
   arguments_fine : (a : ListArguments) (t : ℕ) → Each (λ k. FineChain k.through s t k.column) a.sorts → Each (Has s t) a.distinct
-    → fit.are_arguments a s t ≡ true → length (list_sorts s t a) ≤ 2 ^ 64 → FineArguments s t a
+      → fit.are_arguments a s t ≡ true → length (list_sorts s t a) ≤ 2 ^ 64 → FineArguments s t a
   arguments_fine a t sorts distinct h few =
       let last = and_parts _ _ h in
       let short = and_parts _ _ last.0 in

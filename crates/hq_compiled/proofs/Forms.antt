@@ -151,12 +151,12 @@ or_true false b e = e
 -- rows of one table, and of none
 rows_form : (distinct : List ExprTree) (outs : List OutTree) (schema name alias : List ℕ) (js : JoinTrees) (f : FilterTree) (keys : List OrderTree) (limit offset : Option ℕ)
     → list_all is_expr distinct ≡ true → nat_le 1 (length outs) ≡ true → list_all (λ o. is_expr o.value) outs ≡ true → are_joins js ≡ true
-      → is_filter f ≡ true → list_all (λ k. is_expr k.value) keys ≡ true
+    → is_filter f ≡ true → list_all (λ k. is_expr k.value) keys ≡ true
     → is_select (tree.rows distinct outs (tree.table schema name alias) js f keys limit offset) ≡ true
 rows_form distinct outs schema name alias js f keys limit offset d some v j c k = rw (d, some, v, j, c, k, and_false (is_lone_agg outs)) refl
 
 one_form : (e : ExprTree) (name alias : List ℕ) (js : JoinTrees) (f : FilterTree) → is_expr e ≡ true → are_joins js ≡ true
-  → is_filter f ≡ true → is_select (tree.rows [] (record { value = e; name = name } ∷ []) (tree.one alias) js f [] None None) ≡ true
+    → is_filter f ≡ true → is_select (tree.rows [] (record { value = e; name = name } ∷ []) (tree.one alias) js f [] None None) ≡ true
 one_form e name alias js f v j c = rw (v, j, c, and_false (holds_agg e)) refl
 
 -- what a mode has beside a link
@@ -183,7 +183,7 @@ module _ (s : Schema) (m : Mode) (h : ModeForms m) where
         let A : PredTree = m.guard u n (guard_from m u cs n) in
         let B : PredTree = predicate b s m (m.look u cs n) u n (inner_from m u cs n) in
         rows_form [] (record { value = tree.bool true; name = unit_name } ∷ []) (table s u).schema (table s u).name (table_alias n)
-          (joins_of js) (where_of (with_member L (with_member A (with_member B [])))) [] None None refl refl refl
+        (joins_of js) (where_of (with_member L (with_member A (with_member B [])))) [] None None refl refl refl
         (joins_form js (h.joins u cs n)) (three_form L A B (linked_form s t (rel s t r) p n) (h.guard u n (guard_from m u cs n)) (predicate_form b (m.look u cs n) u n (inner_from m u cs n))) refl
 
     predicates_form : (bs : BexpTrees) (look : Look) (t p n : ℕ) → Forms (predicates bs s m look t p n)
@@ -201,7 +201,7 @@ masks_form [] s t p n = tt
 masks_form (m ∷ ms) s t p n =
     let shown = own_predicate m.shown s t p (n + 1) in (
       one_form (cell_at (own_look (table s t).columns p m.column)) value_name (table_alias n) tree.no_join (where_of (with_member shown []))
-        refl refl (where_form (with_member shown []) (member_form shown [] (own_form m.shown s t p (n + 1)) tt)),
+          refl refl (where_form (with_member shown []) (member_form shown [] (own_form m.shown s t p (n + 1)) tt)),
       masks_form ms s t p (n + (1 + own_numbers m.shown s t)),
     )
 
@@ -338,11 +338,11 @@ module _ (s : Schema) (g : Rights) where
   where_forms = record { guard = λ u n from. own_form (g.filter u) s u n from; joins = λ u cs n. masks_form (used_masks g u cs) s u n (n + 1) }
 
   first_form : (t n : ℕ) (tie filter : PredTree) (e : ExprTree) (js : List JoinTree) → is_pred tie ≡ true → is_pred filter ≡ true
-    → is_expr e ≡ true → JoinForms js → is_select (first_select s t n tie filter e js) ≡ true
+      → is_expr e ≡ true → JoinForms js → is_select (first_select s t n tie filter e js) ≡ true
   first_form t n tie filter e js a b v j =
       rows_form [] (record { value = e; name = value_name } ∷ []) (table s t).schema (table s t).name (table_alias n) (joins_of js)
-        (where_of (with_member tie (with_member filter []))) (key_orders (table s t).columns n (table s t).key) (Some 1) None refl refl
-        (rw v refl)
+      (where_of (with_member tie (with_member filter []))) (key_orders (table s t).columns n (table s t).key) (Some 1) None refl refl
+      (rw v refl)
       (joins_form js j) (two_form tie filter a b) (keys_form (table s t).columns n (table s t).key)
 
   sort_form : (through : List ℕ) (t p n c : ℕ) → JoinForms (sort_joins through s g t p n c)
@@ -354,8 +354,8 @@ module _ (s : Schema) (g : Rights) where
       let next : ℕ = behind_filter s g u cs n in
       let later : List JoinTree = sort_joins rs s g u n next c in (
         first_form u n (link s t (rel s t r) p n) (filter_predicate s g u n from)
-          (cell_at (sort_place false rs s (shown_look s g u cs n) u n next c)) (masks s g u cs n ++ later) (linked_form s t (rel s t r) p n)
-          (own_form (g.filter u) s u n from) refl
+            (cell_at (sort_place false rs s (shown_look s g u cs n) u n next c)) (masks s g u cs n ++ later) (linked_form s t (rel s t r) p n)
+            (own_form (g.filter u) s u n from) refl
             (append_form (masks s g u cs n) later (masks_form (used_masks g u cs) s u n (n + 1)) (sort_form rs u n next c)),
         tt,
       )
@@ -368,7 +368,7 @@ module _ (s : Schema) (g : Rights) where
 
   list_rows_form : (t : ℕ) (cs : List ℕ) (a : ListArguments) (n : ℕ) (tie : PredTree) (limit : Option ℕ) (outs : List OutTree)
       (children : List JoinTree)
-    → is_pred tie ≡ true → nat_le 1 (length outs) ≡ true → list_all (λ o. is_expr o.value) outs ≡ true
+      → is_pred tie ≡ true → nat_le 1 (length outs) ≡ true → list_all (λ o. is_expr o.value) outs ≡ true
       → JoinForms children → is_select (list_rows s g t cs a n tie limit outs children) ≡ true
   list_rows_form t cs a n tie limit outs children e some v j =
       let from : ℕ = filter_from s g t cs n in
@@ -380,22 +380,22 @@ module _ (s : Schema) (g : Rights) where
       let B : PredTree = predicate a.wanted s (where_mode s g) look t n next in
       let js : List JoinTree = masks s g t cs n ++ (sorts_joins ks s g t n first ++ children) in
       rows_form (distinct_columns (table s t).columns look a.distinct) outs (table s t).schema (table s t).name (table_alias n)
-        (joins_of js) (where_of (with_member tie (with_member A (with_member B []))))
+      (joins_of js) (where_of (with_member tie (with_member A (with_member B []))))
       (orders ks s g look t n first) limit a.offset (distinct_form (table s t).columns look a.distinct) some v
       (joins_form js
-         (append_form (masks s g t cs n) (sorts_joins ks s g t n first ++ children) (masks_form (used_masks g t cs) s t n (n + 1))
-            (append_form (sorts_joins ks s g t n first) children (sorts_form ks t n first) j)))
+      (append_form (masks s g t cs n) (sorts_joins ks s g t n first ++ children) (masks_form (used_masks g t cs) s t n (n + 1))
+      (append_form (sorts_joins ks s g t n first) children (sorts_form ks t n first) j)))
       (three_form tie A B e (own_form (g.filter t) s t n from) (predicate_form s (where_mode s g) where_forms a.wanted look t n next)) (orders_form ks s g look t n first)
 
   list_form : (t : ℕ) (cs : List ℕ) (a : ListArguments) (n : ℕ) (tie : PredTree) (values : List PairTree) (children : List JoinTree)
-    → HasKey s t → is_pred tie ≡ true → are_pairs (pairs_of values) ≡ true → JoinForms children
+      → HasKey s t → is_pred tie ≡ true → are_pairs (pairs_of values) ≡ true → JoinForms children
       → is_select (list_select s g t cs a n tie values children) ≡ true
   list_form t cs a n tie values children key e v j =
       rw (
         array_form (list_sorts s t a) s t n (fold_alias n) value_name (sorts_count (entries a) (table s t).key key),
         list_rows_form t cs a n tie (smaller a.limit (g.limit t)) (list_outputs s g t cs a n values) children e
-          (some_of 1 (length (list_outputs s g t cs a n values)) (omega arith))
-          (rw v (outputs_form (list_sorts s t a) s g (shown_look s g t cs n) t n (sorts_from s g t cs a n) 0)) j,
+            (some_of 1 (length (list_outputs s g t cs a n values)) (omega arith))
+            (rw v (outputs_form (list_sorts s t a) s g (shown_look s g t cs n) t n (sorts_from s g t cs a n) 0)) j,
       ) refl
 
   summary_select_form : (fs : List KeyedAggField) (t : ℕ) (a : ListArguments) (n : ℕ) (tie : PredTree) → is_pred tie ≡ true → is_select (summary_select fs s g t a n tie) ≡ true
@@ -408,8 +408,8 @@ module _ (s : Schema) (g : Rights) where
           summaries_form columns n cs fs,
           summaries_agg columns n cs fs some,
           list_rows_form t (summary_used s t a fs) a n tie a.limit (needed_outputs (shown_look s g t (summary_used s t a fs) n) cs) [] e
-            (needed_some (shown_look s g t (summary_used s t a fs) n) cs)
-            (needed_outputs_form (shown_look s g t (summary_used s t a fs) n) cs) tt,
+              (needed_some (shown_look s g t (summary_used s t a fs) n) cs)
+              (needed_outputs_form (shown_look s g t (summary_used s t a fs) n) cs) tt,
         ) refl
         | false ↦ λ none. one_form (tree.object (pairs_of (summary_pairs columns n cs fs))) value_name (table_alias n) tree.no_join tree.no_filter (summaries_form columns n cs fs) refl refl
       ] in
@@ -422,10 +422,10 @@ module _ (s : Schema) (g : Rights) where
   -- the first row's object, and a list, of fields whose joins are given
   first_of : (fs : FieldTrees) (u n : ℕ) (cs : List ℕ) (tie : PredTree) → is_pred tie ≡ true → JoinForms (fields_joins fs s g u n (behind_filter s g u cs n))
       → is_select
-          (first_select s u n tie (filter_predicate s g u n (filter_from s g u cs n))
-             (tree.object (pairs_of (fields_values fs s g (shown_look s g u cs n) u (behind_filter s g u cs n))))
-             (masks s g u cs n ++ fields_joins fs s g u n (behind_filter s g u cs n)))
-        ≡ true
+      (first_select s u n tie (filter_predicate s g u n (filter_from s g u cs n))
+      (tree.object (pairs_of (fields_values fs s g (shown_look s g u cs n) u (behind_filter s g u cs n))))
+      (masks s g u cs n ++ fields_joins fs s g u n (behind_filter s g u cs n)))
+      ≡ true
   first_of fs u n cs tie e j =
       let from : ℕ = filter_from s g u cs n in
       let next : ℕ = behind_filter s g u cs n in
@@ -434,10 +434,10 @@ module _ (s : Schema) (g : Rights) where
       (fields_form fs s g (shown_look s g u cs n) u next) (append_form (masks s g u cs n) later (masks_form (used_masks g u cs) s u n (n + 1)) j)
 
   list_of : (fs : FieldTrees) (u : ℕ) (a : ListArguments) (n : ℕ) (tie : PredTree) → HasKey s u → is_pred tie ≡ true
-    → JoinForms (fields_joins fs s g u n (children_from s g u (list_used s u a (fields_used fs)) a n))
+      → JoinForms (fields_joins fs s g u n (children_from s g u (list_used s u a (fields_used fs)) a n))
       → is_select (list_select s g u (list_used s u a (fields_used fs)) a n tie
-        (fields_values fs s g (shown_look s g u (list_used s u a (fields_used fs)) n) u
-           (children_from s g u (list_used s u a (fields_used fs)) a n))
+      (fields_values fs s g (shown_look s g u (list_used s u a (fields_used fs)) n) u
+      (children_from s g u (list_used s u a (fields_used fs)) a n))
       (fields_joins fs s g u n (children_from s g u (list_used s u a (fields_used fs)) a n))) ≡ true
   list_of fs u a n tie key e j =
       let cs : List ℕ = list_used s u a (fields_used fs) in
@@ -451,7 +451,7 @@ module _ (s : Schema) (g : Rights) where
     joins_of_fields no_field t p n h = tt
     joins_of_fields (field key f fs) t p n h =
         append_form (field_joins f s g t p n) (fields_joins fs s g t p (n + field_numbers f s g t)) (joins_of_field f t p n h.0)
-          (joins_of_fields fs t p (n + field_numbers f s g t) h.1)
+        (joins_of_fields fs t p (n + field_numbers f s g t) h.1)
 
     joins_of_field : (f : FieldTree) (t p n : ℕ) → IsKeyed f s t → JoinForms (field_joins f s g t p n)
     joins_of_field (column c) t p n h = tt
@@ -465,24 +465,26 @@ module _ (s : Schema) (g : Rights) where
         (list_of fs u a n (origin_tie o s t p n) h.0 (tie_form o t p n) (joins_of_fields fs u n (children_from s g u (list_used s u a (fields_used fs)) a n) h.1), tt)
     joins_of_field (by_key u key fs) t p n h =
         let cs : List ℕ = key_used s u fs in
-        let members : List PredTree = key_members (table s u).columns (shown_look s g u cs n) (table s u).key key in
-        (first_of fs u n cs (joined_by_and members)
-             (and_form members (key_form (table s u).columns (shown_look s g u cs n) (table s u).key key))
-             (joins_of_fields fs u n (behind_filter s g u cs n) h),
-           tt)
+        let members : List PredTree = key_members (table s u).columns (shown_look s g u cs n) (table s u).key key in (
+          first_of fs u n cs (joined_by_and members)
+              (and_form members (key_form (table s u).columns (shown_look s g u cs n) (table s u).key key))
+              (joins_of_fields fs u n (behind_filter s g u cs n) h),
+          tt,
+        )
     joins_of_field (aggregate o a ps) t p n h =
-        let u : ℕ = origin_table o s t in
-        (one_form (tree.object (pairs_of (parts_values ps s g u a (n + 1)))) value_name (table_alias n)
-             (joins_of (parts_joins ps s g o t p a (n + 1))) tree.no_filter (parts_form ps s g u a (n + 1))
-             (joins_form (parts_joins ps s g o t p a (n + 1)) (joins_of_parts ps o t p a (n + 1) h)) refl,
-           tt)
+        let u : ℕ = origin_table o s t in (
+          one_form (tree.object (pairs_of (parts_values ps s g u a (n + 1)))) value_name (table_alias n)
+              (joins_of (parts_joins ps s g o t p a (n + 1))) tree.no_filter (parts_form ps s g u a (n + 1))
+              (joins_form (parts_joins ps s g o t p a (n + 1)) (joins_of_parts ps o t p a (n + 1) h)) refl,
+          tt,
+        )
     joins_of_field (introspect f) t p n h = (refl, tt)
 
     joins_of_parts : (ps : PartTrees) (o : Origin) (t p : ℕ) (a : ListArguments) (n : ℕ) → AreKeyedParts ps s (origin_table o s t) → JoinForms (parts_joins ps s g o t p a n)
     joins_of_parts no_part o t p a n h = tt
     joins_of_parts (part key q ps) o t p a n h =
         append_form (part_joins q s g o t p a n) (parts_joins ps s g o t p a (n + part_numbers q s g (origin_table o s t) a))
-          (joins_of_part q o t p a n h.0) (joins_of_parts ps o t p a (n + part_numbers q s g (origin_table o s t) a) h.1)
+        (joins_of_part q o t p a n h.0) (joins_of_parts ps o t p a (n + part_numbers q s g (origin_table o s t) a) h.1)
 
     joins_of_part : (q : PartTree) (o : Origin) (t p : ℕ) (a : ListArguments) (n : ℕ) → IsKeyedPart q s (origin_table o s t) → JoinForms (part_joins q s g o t p a n)
     joins_of_part (summary fs) o t p a n h = (summary_select_form fs (origin_table o s t) a n (origin_tie o s t p n) (tie_form o t p n), tt)
@@ -496,5 +498,5 @@ pub statement_form : (fs : FieldTrees) (s : Schema) (g : Rights) → AreKeyed fs
 statement_form fs s g h =
     let look : Look = own_look (table s (length s)).columns 0 in
     one_form (tree.object (pairs_of (fields_values fs s g look (length s) 1))) value_name (table_alias 0)
-      (joins_of (fields_joins fs s g (length s) 0 1)) tree.no_filter (fields_form fs s g look (length s) 1)
+    (joins_of (fields_joins fs s g (length s) 0 1)) tree.no_filter (fields_form fs s g look (length s) 1)
     (joins_form (fields_joins fs s g (length s) 0 1) (joins_of_fields s g fs (length s) 0 1 h)) refl

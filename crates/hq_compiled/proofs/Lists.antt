@@ -79,26 +79,26 @@ module _ (s : Schema) (g : Grants) (d : List (List Row)) where
 
   -- DISTINCT ON compares the shown cells
   same_looked : (u : ℕ) (columns : List Column) (look : Look) (cs : List ℕ) (e f : Scope) (x y : Row) → Looks look cs e (shown s g d u x)
-    → Looks look cs f (shown s g d u y) → same_values (distinct_columns columns look cs) e f ≡ same_cells cs (seen_by s g d) u x y
+      → Looks look cs f (shown s g d u y) → same_values (distinct_columns columns look cs) e f ≡ same_cells cs (seen_by s g d) u x y
   same_looked u columns look [] e f x y l k = refl
   same_looked u columns look (c ∷ cs) e f x y l k =
       let here = used_left c (c ∷ []) cs (used_one c) in
       rw (l c here, k c here, same_looked u columns look cs e f x y (looks_right look (c ∷ []) cs e (shown s g d u x) l) (looks_right look (c ∷ []) cs f (shown s g d u y) k)) refl
 
   distinct_map : (u : ℕ) (columns : List Column) (look : Look) (X : Row → Scope) (cs : List ℕ)
-    → ((r : Row) → Narrow s u r → Looks look cs (X r) (shown s g d u r)) → (l : List Row) → Each (Narrow s u) l
+      → ((r : Row) → Narrow s u r → Looks look cs (X r) (shown s g d u r)) → (l : List Row) → Each (Narrow s u) l
       → distinct_on (distinct_columns columns look cs) (map X l) ≡ map X (distinct_rows cs (seen_by s g d) u l)
   distinct_map u columns look X [] looked l narrow = refl
   distinct_map u columns look X (c ∷ cs) looked l narrow =
       firsts_map_on (Narrow s u) X (same_cells (c ∷ cs) (seen_by s g d) u) (same_values (distinct_columns columns look (c ∷ cs)))
-        (λ x y p q. same_looked u columns look (c ∷ cs) (X x) (X y) x y (looked x p) (looked y q)) l narrow
+      (λ x y p q. same_looked u columns look (c ∷ cs) (X x) (X y) x y (looked x p) (looked y q)) l narrow
 
 -- A list of table u at the alias of number n whose outputs use the columns `more`, with the joins J of its children: each row is
 -- tied to what stands around by `tie`.
 module _ (s : Schema) (tables : List Table) (d : List (List Row)) (sound : Sound s tables d) (g : Grants) (u n : ℕ) (a : ListArguments)
-  (more : List ℕ) (J : List JoinTree) (k : ℕ) (F : Row → Scope → Scope)
+    (more : List ℕ) (J : List JoinTree) (k : ℕ) (F : Row → Scope → Scope)
     (x : Extends s (record { tables = tables; database = d }) J u n (children_from s (rights_of g) u (list_used s u a more) a n) k F)
-      (bound : n + (list_numbers s (rights_of g) u (list_used s u a more) a + k) ≤ 2 ^ 64) (scope : Scope) where
+    (bound : n + (list_numbers s (rights_of g) u (list_used s u a more) a + k) ≤ 2 ^ 64) (scope : Scope) where
   abbrev pub w : World
   w = record { tables = tables; database = d }
 
@@ -127,17 +127,17 @@ module _ (s : Schema) (tables : List Table) (d : List (List Row)) (sound : Sound
   pub later : Extends s w (sorts_joins keys s (rights_of g) u n from ++ J) u n from (sorts_numbers keys s (rights_of g) u + k) H
   later =
       extends_apart s w (sorts_joins keys s (rights_of g) u n from) J u n from (sorts_numbers keys s (rights_of g) u)
-        (children_from s (rights_of g) u cs a n) k _ (with_sorts s g d keys u from) F (omega arith) (omega arith)
-        (sorts_extend s g d tables sound keys u n from (omega arith) (omega arith)) x
+      (children_from s (rights_of g) u cs a n) k _ (with_sorts s g d keys u from) F (omega arith) (omega arith)
+      (sorts_extend s g d tables sound keys u n from (omega arith) (omega arith)) x
 
   pub all : Extends s w (masks s (rights_of g) u cs n ++ (sorts_joins keys s (rights_of g) u n from ++ J)) u n (n + 1)
-    (extra s (rights_of g) u cs + filter_numbers s (rights_of g) u + where_numbers a.wanted s (rights_of g) u
-       + sorts_numbers keys s (rights_of g) u + k)
-    G
+      (extra s (rights_of g) u cs + filter_numbers s (rights_of g) u + where_numbers a.wanted s (rights_of g) u
+      + sorts_numbers keys s (rights_of g) u + k)
+      G
   all =
       extends_apart s w (masks s (rights_of g) u cs n) (sorts_joins keys s (rights_of g) u n from ++ J) u n (n + 1)
-        (extra s (rights_of g) u cs) from (sorts_numbers keys s (rights_of g) u + k) _ M H (omega arith) (omega arith)
-        (masks_at s tables d sound g u n cs (omega arith)) later
+      (extra s (rights_of g) u cs) from (sorts_numbers keys s (rights_of g) u + k) _ M H (omega arith) (omega arith)
+      (masks_at s tables d sound g u n cs (omega arith)) later
 
   -- the scope of a row behind all joins
   abbrev pub X : Row → Scope
@@ -185,11 +185,11 @@ module _ (s : Schema) (tables : List Table) (d : List (List Row)) (sound : Sound
       abbrev condition : List PredTree
       condition =
           with_member tie
-            (with_member (filter_predicate s (rights_of g) u n (filter_from s (rights_of g) u cs n))
-               (with_member (predicate a.wanted s (where_mode s (rights_of g)) look u n (behind_filter s (rights_of g) u cs n)) []))
+          (with_member (filter_predicate s (rights_of g) u n (filter_from s (rights_of g) u cs n))
+          (with_member (predicate a.wanted s (where_mode s (rights_of g)) look u n (behind_filter s (rights_of g) u cs n)) []))
 
       rowwise : Rowwise s w u n scope (masks s (rights_of g) u cs n ++ (sorts_joins keys s (rights_of g) u n from ++ J))
-        (where_of condition) (orders keys s (rights_of g) look u n from) X test (sorts_cmp s g d keys u)
+          (where_of condition) (orders keys s (rights_of g) look u n from) X test (sorts_cmp s g d keys u)
       rowwise =
           let own : PredTree = filter_predicate s (rights_of g) u n (filter_from s (rights_of g) u cs n) in
           let wanted : PredTree = predicate a.wanted s (where_mode s (rights_of g)) look u n (behind_filter s (rights_of g) u cs n) in
@@ -222,11 +222,11 @@ module _ (s : Schema) (tables : List Table) (d : List (List Row)) (sound : Sound
         sym
         (ap (λ l. limited limit (offset_by a.offset (distinct_rows a.distinct S u l)))
         (ap (sort (entries_cmp (entries a) s S u))
-          (filter_filter asked tied (permitted s g d u)
-             ∙ permitted_filter s g d u test (λ r. tied r && asked r) (λ r. order_three (tied r) (is_permitted s g d u r) (asked r)))
+        (filter_filter asked tied (permitted s g d u)
+        ∙ permitted_filter s g d u test (λ r. tied r && asked r) (λ r. order_three (tied r) (is_permitted s g d u r) (asked r)))
         ∙ sort_sort (entries_total s g d (entries a) u) (columns_total (table s u).key) rows
         ∙ sort_on (λ (r : Row). Unit {0}) (then_cmp (entries_cmp (entries a) s S u) (columns_cmp (table s u).key)) (sorts_cmp s g d keys u)
-          (λ x y p q. sym (keys_append s g d (entries a) (table s u).key u x y)) rows
+        (λ x y p q. sym (keys_append s g d (entries a) (table s u).key u x y)) rows
         (each_all (λ (r : Row). Unit {0}) (λ r. tt) rows)))
 
     module _ (means : (far : Row) → Narrow s u far → is_true (truth_at tie w (X far)) ≡ tied far) where
@@ -244,9 +244,9 @@ module _ (s : Schema) (tables : List Table) (d : List (List Row)) (sound : Sound
           let by : Scope → Scope → Ordering = orders_cmp (orders_of (output_orders keys s u n 0)) in
           let carried : (r : Row) → Narrow s u r → Carries s g d (group r (fold_alias n)) keys u 0 r =
           λ r f. rw (with_alias_same scope (fold_alias n) (out r))
-            (carries_behind s g d _ value_name _ keys u 0 r (λ j e h. value_is_no_key j)
-               (carries_keys s g d keys look u n from 0 (X r) r (x_sorts r f) (omega arith)))
-            in
+          (carries_behind s g d _ value_name _ keys u 0 r (λ j e h. value_is_no_key j)
+          (carries_keys s g d keys look u n from 0 (X r) r (x_sorts r f) (omega arith)))
+          in
           let sorted : sort by (map group chosen_rows) ≡ map group (sort R chosen_rows) =
           sort_map_on (Narrow s u) group R by (λ x y p q. fold_orders s g d n keys u 0 (group x) (group y) x y (carried x p) (carried y q)) chosen_rows narrow in
           let again : sort R chosen_rows ≡ chosen_rows =

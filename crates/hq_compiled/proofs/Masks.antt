@@ -75,7 +75,7 @@ module _ (s : Schema) (tables : List Table) (d : List (List Row)) (sound : Sound
   with_masks (m ∷ ms) t n row scope = with_masks ms t (n + (1 + own_numbers m.shown s t)) row (with_alias scope (join_alias n) (mask_row m t row))
 
   mask_rows : (m : Mask) (t p n : ℕ) (scope : Scope) (row : Row) → p < n → n + (1 + own_numbers m.shown s t) ≤ 2 ^ 64
-    → Shows s scope t p row → or_null_row (rows_of (mask_select m s t p n) w scope) ≡ mask_row m t row ∷ []
+      → Shows s scope t p row → or_null_row (rows_of (mask_select m s t p n) w scope) ≡ mask_row m t row ∷ []
   mask_rows m t p n scope row lt bound shows =
       let E : Scope = with_alias scope (table_alias n) ((codes "u", bool true) ∷ []) in
       let mask : PredTree = own_predicate m.shown s t p (n + 1) in
@@ -103,7 +103,7 @@ module _ (s : Schema) (tables : List Table) (d : List (List Row)) (sound : Sound
   found scope p = cell_named (scope p.alias) p.name
 
   mask_looks : (ms : List Mask) (t p n c : ℕ) (scope : Scope) (row : Row) → p < n → n + mask_numbers ms s t ≤ 2 ^ 64 → Shows s scope t p row
-    → found (with_masks ms t n row scope) (mask_look ms s t p n c) ≡ masked_cell ms t row c
+      → found (with_masks ms t n row scope) (mask_look ms s t p n c) ≡ masked_cell ms t row c
   mask_looks [] t p n c scope row lt bound shows = shows c
   mask_looks (m ∷ ms) t p n c scope row lt bound shows =
       let next : ℕ = n + (1 + own_numbers m.shown s t) in
@@ -112,11 +112,11 @@ module _ (s : Schema) (tables : List Table) (d : List (List Row)) (sound : Sound
       let behind : with_masks ms t next row E (join_alias n) ≡ mask_row m t row =
       rest.keeps E row (join_alias n) (λ q h k. join_aliases_differ n q (omega arith) (omega arith)) ∙ with_alias_same scope (join_alias n) (mask_row m t row) in
       let cells : (b : Bool)
-          → cell_named (cond b ((value_name, row_cell row m.column) ∷ []) []) value_name ≡ cond b (row_cell row m.column) null =
-          elim [ true ↦ rw (same_text value_name) refl | false ↦ refl ] in
+      → cell_named (cond b ((value_name, row_cell row m.column) ∷ []) []) value_name ≡ cond b (row_cell row m.column) null =
+      elim [ true ↦ rw (same_text value_name) refl | false ↦ refl ] in
       let go : (b : Bool) → (m.column == c) ≡ b
-        → found (with_masks ms t next row E) (cond b (value_place n) (mask_look ms s t p next c))
-          ≡ cond (keeps (cond b m.shown (mask_of ms c)) s (all_of s d) t row) (row_cell row c) null =
+      → found (with_masks ms t next row E) (cond b (value_place n) (mask_look ms s t p next c))
+      ≡ cond (keeps (cond b m.shown (mask_of ms c)) s (all_of s d) t row) (row_cell row c) null =
       elim [
         | true ↦ λ e.
             ap (λ r. cell_named r value_name) behind ∙ cells (shows_cell m t row) ∙ ap (λ k. cond (shows_cell m t row) (row_cell row k) null) (eqb-true m.column c e)
@@ -133,8 +133,8 @@ module _ (s : Schema) (tables : List Table) (d : List (List Row)) (sound : Sound
       let later = look_same ms t p next c e f a (λ q h k. j q (omega arith) (omega arith)) in
       let here = j n (omega arith) (omega arith) in
       let go : (b : Bool)
-          → found e (cond b (value_place n) (mask_look ms s t p next c)) ≡ found f (cond b (value_place n) (mask_look ms s t p next c)) =
-          elim [ true ↦ rw here refl | false ↦ later ] in
+      → found e (cond b (value_place n) (mask_look ms s t p next c)) ≡ found f (cond b (value_place n) (mask_look ms s t p next c)) =
+      elim [ true ↦ rw here refl | false ↦ later ] in
       go (m.column == c)
 
   module _ (g : Grants) where
@@ -147,14 +147,14 @@ module _ (s : Schema) (tables : List Table) (d : List (List Row)) (sound : Sound
 
     -- the columns that are used are looked at as they are shown
     pub looks_at : (t n : ℕ) (cs : List ℕ) (scope : Scope) (row : Row) → n + 1 + extra s (rights_of g) t cs ≤ 2 ^ 64 → Shows s scope t n row
-      → Looks (shown_look s (rights_of g) t cs n) cs (behind_masks t cs n row scope) (shown s g d t row)
+        → Looks (shown_look s (rights_of g) t cs n) cs (behind_masks t cs n row scope) (shown s g d t row)
     looks_at t n cs scope row bound shows c h =
         mask_looks (used_masks (rights_of g) t cs) t n (n + 1) c scope row (omega arith) bound shows
         ∙ ap (λ k. cond (keeps k s (all_of s d) t row) (row_cell row c) null) (used_same (grant g t).masks cs c h)
 
     -- later joins change nothing of that
     pub looks_later : (t n : ℕ) (cs : List ℕ) (H : List JoinTree) (u p q k : ℕ) (G : Row → Scope → Scope) → Extends s w H u p q k G
-      → n + 1 + extra s (rights_of g) t cs ≤ q → q + k ≤ 2 ^ 64 → (scope : Scope) (row : Row) (cell : ℕ → CellTree)
+        → n + 1 + extra s (rights_of g) t cs ≤ q → q + k ≤ 2 ^ 64 → (scope : Scope) (row : Row) (cell : ℕ → CellTree)
         → Looks (shown_look s (rights_of g) t cs n) cs scope cell → Looks (shown_look s (rights_of g) t cs n) cs (G row scope) cell
     looks_later t n cs H u p q k G x le bound scope row cell l c h =
         look_same (used_masks (rights_of g) t cs) t n (n + 1) c (G row scope) scope
@@ -168,7 +168,7 @@ module _ (s : Schema) (tables : List Table) (d : List (List Row)) (sound : Sound
       after = behind_masks;
       counted =
           λ u q. any_kept q (is_permitted s g d u) (sort (columns_cmp (table s u).key) (table_rows d u))
-            ∙ sort_any (columns_cmp (table s u).key) (λ r. is_permitted s g d u r && q r) (table_rows d u);
+          ∙ sort_any (columns_cmp (table s u).key) (λ r. is_permitted s g d u r && q r) (table_rows d u);
       links = λ t r row far. refl;
       means = λ u n from scope row lt bound shows. own_means s tables d sound (grant g u).filter u n from scope row lt bound shows;
       extends = λ u n cs bound. masks_at u n cs bound;
@@ -177,7 +177,7 @@ module _ (s : Schema) (tables : List Table) (d : List (List Row)) (sound : Sound
 
     -- a request's `where` at an alias whose columns are looked at as they are shown
     pub where_means : (b : BexpTree) (look : Look) (t p n : ℕ) (scope : Scope) (row : Row) → p < n
-      → n + numbers b s (where_mode s (rights_of g)) t ≤ 2 ^ 64 → Shows s scope t p row
-      → Looks look (columns_in b) scope (shown s g d t row)
+        → n + numbers b s (where_mode s (rights_of g)) t ≤ 2 ^ 64 → Shows s scope t p row
+        → Looks look (columns_in b) scope (shown s g d t row)
         → truth_at (predicate b s (where_mode s (rights_of g)) look t p n) w scope ≡ truth b s (seen_by s g d) t row
     where_means = predicate_means s tables d sound (seen_by s g d) (where_mode s (rights_of g)) where_promises

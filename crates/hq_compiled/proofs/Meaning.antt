@@ -122,12 +122,12 @@ module _ (s : Schema) (tables : List Table) (d : List (List Row)) (g : Grants) w
   start_is (along r) t row = refl
 
   tie_means : (o : Origin) (t p n : ℕ) (scope : Scope) (row far : Row) → Shows s scope t p row → Shows s scope (origin_table o s t) n far
-    → is_true (truth_at (origin_tie o s t p n) w scope) ≡ tied_of o t row far
+      → is_true (truth_at (origin_tie o s t p n) w scope) ≡ tied_of o t row far
   tie_means (from_table u) t p n scope row far f h = refl
   tie_means (along r) t p n scope row far f h = link_means s w t (rel s t r) p n scope row far f h
 
   key_means : (u : ℕ) (look : Look) (cs : List ℕ) (vs : List Val) (scope : Scope) (far : Row) → Looks look cs scope (shown s g d u far)
-    → is_true (truth_at (joined_by_and (key_members (table s u).columns look cs vs)) w scope) ≡ shows_key cs vs (seen_by s g d) u far
+      → is_true (truth_at (joined_by_and (key_members (table s u).columns look cs vs)) w scope) ≡ shows_key cs vs (seen_by s g d) u far
   key_means u look cs vs scope far l = true_joined w scope (key_members (table s u).columns look cs vs) ∙ go cs vs l
     where
       go : (cs : List ℕ) (vs : List Val) → Looks look cs scope (shown s g d u far) → all_kept w scope (key_members (table s u).columns look cs vs) ≡ shows_key cs vs (seen_by s g d) u far
@@ -141,8 +141,8 @@ module _ (s : Schema) (tables : List Table) (d : List (List Row)) (g : Grants) w
   -- ---- a join changes its own alias alone
 
   field_other : (f : FieldTree) (t n : ℕ) (row : Row) (scope : Scope) (b : List ℕ)
-    → ((m : ℕ) → n ≤ m → m < n + field_numbers f s (rights_of g) t → bytes_eq (join_alias m) b ≡ false)
-    → with_field f t n row scope b ≡ scope b
+      → ((m : ℕ) → n ≤ m → m < n + field_numbers f s (rights_of g) t → bytes_eq (join_alias m) b ≡ false)
+      → with_field f t n row scope b ≡ scope b
   field_other (column c) t n row scope b ne = refl
   field_other (typename name) t n row scope b ne = refl
   field_other no_queries t n row scope b ne = with_alias_other scope (join_alias n) b _ (ne n (omega arith) (omega arith))
@@ -153,8 +153,8 @@ module _ (s : Schema) (tables : List Table) (d : List (List Row)) (g : Grants) w
   field_other (introspect f) t n row scope b ne = with_alias_other scope (join_alias n) b _ (ne n (omega arith) (omega arith))
 
   fields_other : (fs : FieldTrees) (t n : ℕ) (row : Row) (scope : Scope) (b : List ℕ)
-    → ((m : ℕ) → n ≤ m → m < n + fields_numbers fs s (rights_of g) t → bytes_eq (join_alias m) b ≡ false)
-    → with_fields fs t n row scope b ≡ scope b
+      → ((m : ℕ) → n ≤ m → m < n + fields_numbers fs s (rights_of g) t → bytes_eq (join_alias m) b ≡ false)
+      → with_fields fs t n row scope b ≡ scope b
   fields_other no_field t n row scope b ne = refl
   fields_other (field key f fs) t n row scope b ne =
       fields_other fs t (n + field_numbers f s (rights_of g) t) row (with_field f t n row scope) b (λ m h i. ne m (omega arith) (omega arith))
@@ -167,15 +167,15 @@ module _ (s : Schema) (tables : List Table) (d : List (List Row)) (g : Grants) w
       go (some_aggregate fs)
 
   part_other : (p : PartTree) (o : Origin) (t : ℕ) (a : ListArguments) (n : ℕ) (row : Row) (scope : Scope) (b : List ℕ)
-    → ((m : ℕ) → n ≤ m → m < n + part_numbers p s (rights_of g) (origin_table o s t) a → bytes_eq (join_alias m) b ≡ false)
-    → with_part p o t a n row scope b ≡ scope b
+      → ((m : ℕ) → n ≤ m → m < n + part_numbers p s (rights_of g) (origin_table o s t) a → bytes_eq (join_alias m) b ≡ false)
+      → with_part p o t a n row scope b ≡ scope b
   part_other (summary fs) o t a n row scope b ne = let some = summary_some fs (origin_table o s t) a in with_alias_other scope (join_alias n) b _ (ne n (omega arith) (omega arith))
   part_other (nodes fs) o t a n row scope b ne = with_alias_other scope (join_alias n) b _ (ne n (omega arith) (omega arith))
   part_other (part_typename name) o t a n row scope b ne = refl
 
   parts_other : (ps : PartTrees) (o : Origin) (t : ℕ) (a : ListArguments) (n : ℕ) (row : Row) (scope : Scope) (b : List ℕ)
-    → ((m : ℕ) → n ≤ m → m < n + parts_numbers ps s (rights_of g) (origin_table o s t) a → bytes_eq (join_alias m) b ≡ false)
-    → with_parts ps o t a n row scope b ≡ scope b
+      → ((m : ℕ) → n ≤ m → m < n + parts_numbers ps s (rights_of g) (origin_table o s t) a → bytes_eq (join_alias m) b ≡ false)
+      → with_parts ps o t a n row scope b ≡ scope b
   parts_other no_part o t a n row scope b ne = refl
   parts_other (part key p ps) o t a n row scope b ne =
       parts_other ps o t a (n + part_numbers p s (rights_of g) (origin_table o s t) a) row (with_part p o t a n row scope) b (λ m h i. ne m (omega arith) (omega arith))
@@ -185,14 +185,14 @@ module _ (s : Schema) (tables : List Table) (d : List (List Row)) (g : Grants) w
 
   -- what the join of number n gave is still there behind the later ones
   still : (fs : FieldTrees) (t n m : ℕ) (row : Row) (scope : Scope) (x : NamedRow) → n < m
-    → m + fields_numbers fs s (rights_of g) t ≤ 2 ^ 64
-    → json_of (cell_named (with_fields fs t m row (with_alias scope (join_alias n) x) (join_alias n)) value_name)
+      → m + fields_numbers fs s (rights_of g) t ≤ 2 ^ 64
+      → json_of (cell_named (with_fields fs t m row (with_alias scope (join_alias n) x) (join_alias n)) value_name)
       ≡ json_of (cell_named x value_name)
   still fs t n m row scope x lt bound =
       ap (λ y. json_of (cell_named y value_name))
-        (fields_other fs t m row (with_alias scope (join_alias n) x) (join_alias n)
-             (λ q h i. join_aliases_differ n q (omega arith) (omega arith))
-           ∙ with_alias_same scope (join_alias n) x)
+      (fields_other fs t m row (with_alias scope (join_alias n) x) (join_alias n)
+      (λ q h i. join_aliases_differ n q (omega arith) (omega arith))
+      ∙ with_alias_same scope (join_alias n) x)
 
   value_one : (f : FieldTree) (fs : FieldTrees) (look : Look) (t n : ℕ) (scope : Scope) (row : Row) → n + field_numbers f s (rights_of g) t + fields_numbers fs s (rights_of g) t ≤ 2 ^ 64
       → Looks look (field_used f) (with_fields fs t (n + field_numbers f s (rights_of g) t) row (with_field f t n row scope)) (shown s g d t row)
@@ -207,16 +207,16 @@ module _ (s : Schema) (tables : List Table) (d : List (List Row)) (g : Grants) w
       still fs t n (n + field_numbers (list o a gs) s (rights_of g) t) row scope ((value_name, json (given (list o a gs) t row)) ∷ []) (omega arith) bound ∙ one_value (given (list o a gs) t row)
   value_one (by_key u key gs) fs look t n scope row bound l =
       still fs t n (n + field_numbers (by_key u key gs) s (rights_of g) t) row scope
-        (objects (given_all gs u) (filter (shows_key (table s u).key key (seen_by s g d) u) (permitted s g d u))) (omega arith) bound
+      (objects (given_all gs u) (filter (shows_key (table s u).key key (seen_by s g d) u) (permitted s g d u))) (omega arith) bound
       ∙ object_value (given_all gs u) (filter (shows_key (table s u).key key (seen_by s g d) u) (permitted s g d u))
   value_one (aggregate o a ps) fs look t n scope row bound l =
       still fs t n (n + field_numbers (aggregate o a ps) s (rights_of g) t) row scope
-          ((value_name, json (given (aggregate o a ps) t row)) ∷ []) (omega arith) bound
-        ∙ one_value (given (aggregate o a ps) t row)
+      ((value_name, json (given (aggregate o a ps) t row)) ∷ []) (omega arith) bound
+      ∙ one_value (given (aggregate o a ps) t row)
   value_one (introspect f) fs look t n scope row bound l = still fs t n (n + field_numbers (introspect f) s (rights_of g) t) row scope [] (omega arith) bound
 
   values_all : (fs : FieldTrees) (look : Look) (t n : ℕ) (scope : Scope) (row : Row) → n + fields_numbers fs s (rights_of g) t ≤ 2 ^ 64
-    → Looks look (fields_used fs) (with_fields fs t n row scope) (shown s g d t row)
+      → Looks look (fields_used fs) (with_fields fs t n row scope) (shown s g d t row)
       → members (pairs_of (fields_values fs s (rights_of g) look t n)) [] (with_fields fs t n row scope) ≡ given_all fs t row
   values_all no_field look t n scope row bound l = refl
   values_all (field key f fs) look t n scope row bound l =
@@ -225,20 +225,20 @@ module _ (s : Schema) (tables : List Table) (d : List (List Row)) (g : Grants) w
       (values_all fs look t (n + field_numbers f s (rights_of g) t) (with_field f t n row scope) row (omega arith) (looks_right look (field_used f) (fields_used fs) final (shown s g d t row) l))
 
   still_part : (ps : PartTrees) (o : Origin) (t : ℕ) (a : ListArguments) (n m : ℕ) (row : Row) (scope : Scope) (j : JsonTree) → n < m
-    → m + parts_numbers ps s (rights_of g) (origin_table o s t) a ≤ 2 ^ 64
+      → m + parts_numbers ps s (rights_of g) (origin_table o s t) a ≤ 2 ^ 64
       → json_of (cell_named (with_parts ps o t a m row (with_value n j scope) (join_alias n)) value_name) ≡ j
   still_part ps o t a n m row scope j lt bound =
       ap (λ y. json_of (cell_named y value_name))
-        (parts_other ps o t a m row (with_value n j scope) (join_alias n) (λ q h i. join_aliases_differ n q (omega arith) (omega arith))
-           ∙ with_alias_same scope (join_alias n) ((value_name, json j) ∷ []))
+      (parts_other ps o t a m row (with_value n j scope) (join_alias n) (λ q h i. join_aliases_differ n q (omega arith) (omega arith))
+      ∙ with_alias_same scope (join_alias n) ((value_name, json j) ∷ []))
       ∙ one_value j
 
   value_part : (p : PartTree) (ps : PartTrees) (o : Origin) (t : ℕ) (a : ListArguments) (n : ℕ) (scope : Scope) (row : Row)
-    → n + part_numbers p s (rights_of g) (origin_table o s t) a + parts_numbers ps s (rights_of g) (origin_table o s t) a ≤ 2 ^ 64
+      → n + part_numbers p s (rights_of g) (origin_table o s t) a + parts_numbers ps s (rights_of g) (origin_table o s t) a ≤ 2 ^ 64
       → json_of
-          (value (part_value p n) []
-             (with_parts ps o t a (n + part_numbers p s (rights_of g) (origin_table o s t) a) row (with_part p o t a n row scope)))
-        ≡ given_part p (origin_table o s t) a (start o t row)
+      (value (part_value p n) []
+      (with_parts ps o t a (n + part_numbers p s (rights_of g) (origin_table o s t) a) row (with_part p o t a n row scope)))
+      ≡ given_part p (origin_table o s t) a (start o t row)
   value_part (summary fs) ps o t a n scope row bound =
       let some = summary_some fs (origin_table o s t) a in
       still_part ps o t a n (n + part_numbers (summary fs) s (rights_of g) (origin_table o s t) a) row scope (given_part (summary fs) (origin_table o s t) a (start o t row)) (omega arith) bound
@@ -257,23 +257,23 @@ module _ (s : Schema) (tables : List Table) (d : List (List Row)) (g : Grants) w
     -- ---- a list, from its children
 
     list_gives : (o : Origin) (a : ListArguments) (fs : FieldTrees) (t p n : ℕ) → p < n
-      → n
-          +
-            (list_numbers s (rights_of g) (origin_table o s t) (list_used s (origin_table o s t) a (fields_used fs)) a
-               + fields_numbers fs s (rights_of g) (origin_table o s t))
+        → n
+        +
+        (list_numbers s (rights_of g) (origin_table o s t) (list_used s (origin_table o s t) a (fields_used fs)) a
+        + fields_numbers fs s (rights_of g) (origin_table o s t))
         ≤ 2 ^ 64
         → length (list_sorts s (origin_table o s t) a) ≤ 2 ^ 64
         → Extends s w
-          (fields_joins fs s (rights_of g) (origin_table o s t) n
-             (children_from s (rights_of g) (origin_table o s t) (list_used s (origin_table o s t) a (fields_used fs)) a n))
-          (origin_table o s t) n
+        (fields_joins fs s (rights_of g) (origin_table o s t) n
+        (children_from s (rights_of g) (origin_table o s t) (list_used s (origin_table o s t) a (fields_used fs)) a n))
+        (origin_table o s t) n
         (children_from s (rights_of g) (origin_table o s t) (list_used s (origin_table o s t) a (fields_used fs)) a n) (fields_numbers fs s (rights_of g) (origin_table o s t))
         (with_fields fs (origin_table o s t) (children_from s (rights_of g) (origin_table o s t) (list_used s (origin_table o s t) a (fields_used fs)) a n))
         → (scope : Scope) (row : Row) → Shows s scope t p row
         → rows_of (list_select s (rights_of g) (origin_table o s t) (list_used s (origin_table o s t) a (fields_used fs)) a n (origin_tie o s t p n)
         (fields_values fs s (rights_of g)
-           (shown_look s (rights_of g) (origin_table o s t) (list_used s (origin_table o s t) a (fields_used fs)) n) (origin_table o s t)
-           (children_from s (rights_of g) (origin_table o s t) (list_used s (origin_table o s t) a (fields_used fs)) a n))
+        (shown_look s (rights_of g) (origin_table o s t) (list_used s (origin_table o s t) a (fields_used fs)) n) (origin_table o s t)
+        (children_from s (rights_of g) (origin_table o s t) (list_used s (origin_table o s t) a (fields_used fs)) a n))
         (fields_joins fs s (rights_of g) (origin_table o s t) n (children_from s (rights_of g) (origin_table o s t) (list_used s (origin_table o s t) a (fields_used fs)) a n))) w scope
         ≡ ((value_name, json (given (list o a fs) t row)) ∷ []) ∷ []
     list_gives o a fs t p n lt bound few x scope row shows =
@@ -301,64 +301,64 @@ module _ (s : Schema) (tables : List Table) (d : List (List Row)) (g : Grants) w
 
     first_extends : (u : ℕ) (cs : List ℕ) (fs : FieldTrees) (n : ℕ) → n + (1 + extra s (rights_of g) u cs + filter_numbers s (rights_of g) u + fields_numbers fs s (rights_of g) u) ≤ 2 ^ 64
         → Extends s w (fields_joins fs s (rights_of g) u n (behind_filter s (rights_of g) u cs n)) u n
-          (behind_filter s (rights_of g) u cs n) (fields_numbers fs s (rights_of g) u)
-          (with_fields fs u (behind_filter s (rights_of g) u cs n))
+        (behind_filter s (rights_of g) u cs n) (fields_numbers fs s (rights_of g) u)
+        (with_fields fs u (behind_filter s (rights_of g) u cs n))
         → Extends s w (masks s (rights_of g) u cs n ++ fields_joins fs s (rights_of g) u n (behind_filter s (rights_of g) u cs n)) u n
-          (n + 1) (extra s (rights_of g) u cs + filter_numbers s (rights_of g) u + fields_numbers fs s (rights_of g) u)
-          (with_first u cs fs n)
+        (n + 1) (extra s (rights_of g) u cs + filter_numbers s (rights_of g) u + fields_numbers fs s (rights_of g) u)
+        (with_first u cs fs n)
     first_extends u cs fs n bound x =
         extends_apart s w (masks s (rights_of g) u cs n) (fields_joins fs s (rights_of g) u n (behind_filter s (rights_of g) u cs n)) u n
-          (n + 1) (extra s (rights_of g) u cs) (behind_filter s (rights_of g) u cs n) (fields_numbers fs s (rights_of g) u) _
-          (behind_masks s tables d sound g u cs n) (with_fields fs u (behind_filter s (rights_of g) u cs n)) (omega arith) (omega arith)
-          (masks_at s tables d sound g u n cs (omega arith)) x
+        (n + 1) (extra s (rights_of g) u cs) (behind_filter s (rights_of g) u cs n) (fields_numbers fs s (rights_of g) u) _
+        (behind_masks s tables d sound g u cs n) (with_fields fs u (behind_filter s (rights_of g) u cs n)) (omega arith) (omega arith)
+        (masks_at s tables d sound g u n cs (omega arith)) x
 
     first_looks : (u : ℕ) (cs : List ℕ) (fs : FieldTrees) (n : ℕ) → n + (1 + extra s (rights_of g) u cs + filter_numbers s (rights_of g) u + fields_numbers fs s (rights_of g) u) ≤ 2 ^ 64
         → Extends s w (fields_joins fs s (rights_of g) u n (behind_filter s (rights_of g) u cs n)) u n
-          (behind_filter s (rights_of g) u cs n) (fields_numbers fs s (rights_of g) u)
-          (with_fields fs u (behind_filter s (rights_of g) u cs n))
+        (behind_filter s (rights_of g) u cs n) (fields_numbers fs s (rights_of g) u)
+        (with_fields fs u (behind_filter s (rights_of g) u cs n))
         → (scope : Scope) (far : Row) → Narrow s u far → Looks (shown_look s (rights_of g) u cs n) cs (with_first u cs fs n far (at_row s u n scope far)) (shown s g d u far)
     first_looks u cs fs n bound x scope far narrow =
         looks_later s tables d sound g u n cs (fields_joins fs s (rights_of g) u n (behind_filter s (rights_of g) u cs n)) u n
-          (behind_filter s (rights_of g) u cs n) (fields_numbers fs s (rights_of g) u)
-          (with_fields fs u (behind_filter s (rights_of g) u cs n)) x (omega arith) (omega arith)
-          (behind_masks s tables d sound g u cs n far (at_row s u n scope far)) far (shown s g d u far)
+        (behind_filter s (rights_of g) u cs n) (fields_numbers fs s (rights_of g) u)
+        (with_fields fs u (behind_filter s (rights_of g) u cs n)) x (omega arith) (omega arith)
+        (behind_masks s tables d sound g u cs n far (at_row s u n scope far)) far (shown s g d u far)
         (looks_at s tables d sound g u n cs (at_row s u n scope far) far (omega arith) (shows_row s scope u n far (sound.differ u) narrow))
 
     first_gives : (u : ℕ) (cs : List ℕ) (fs : FieldTrees) (n : ℕ) (tie : PredTree) (tied : Row → Bool)
-      → (bound : n + (1 + extra s (rights_of g) u cs + filter_numbers s (rights_of g) u + fields_numbers fs s (rights_of g) u) ≤ 2 ^ 64)
+        → (bound : n + (1 + extra s (rights_of g) u cs + filter_numbers s (rights_of g) u + fields_numbers fs s (rights_of g) u) ≤ 2 ^ 64)
         →
-          (x : Extends s w (fields_joins fs s (rights_of g) u n (behind_filter s (rights_of g) u cs n)) u n
-             (behind_filter s (rights_of g) u cs n) (fields_numbers fs s (rights_of g) u)
-             (with_fields fs u (behind_filter s (rights_of g) u cs n)))
+        (x : Extends s w (fields_joins fs s (rights_of g) u n (behind_filter s (rights_of g) u cs n)) u n
+        (behind_filter s (rights_of g) u cs n) (fields_numbers fs s (rights_of g) u)
+        (with_fields fs u (behind_filter s (rights_of g) u cs n)))
         → ((e : Scope) (far : Row) → Looks (shown_look s (rights_of g) u cs n) cs e (shown s g d u far) → Looks (shown_look s (rights_of g) u cs n) (fields_used fs) e (shown s g d u far))
         → (scope : Scope) → ((far : Row) → Narrow s u far → is_true (truth_at tie w (behind s tables d sound u n _ _ _ _ (first_extends u cs fs n bound x) scope far)) ≡ tied far)
         → or_null_row
-          (rows_of
-             (first_select s u n tie (filter_predicate s (rights_of g) u n (filter_from s (rights_of g) u cs n))
-                (tree.object
-                   (pairs_of (fields_values fs s (rights_of g) (shown_look s (rights_of g) u cs n) u (behind_filter s (rights_of g) u cs n))))
-                (masks s (rights_of g) u cs n ++ fields_joins fs s (rights_of g) u n (behind_filter s (rights_of g) u cs n)))
-             w scope)
+        (rows_of
+        (first_select s u n tie (filter_predicate s (rights_of g) u n (filter_from s (rights_of g) u cs n))
+        (tree.object
+        (pairs_of (fields_values fs s (rights_of g) (shown_look s (rights_of g) u cs n) u (behind_filter s (rights_of g) u cs n))))
+        (masks s (rights_of g) u cs n ++ fields_joins fs s (rights_of g) u n (behind_filter s (rights_of g) u cs n)))
+        w scope)
         ≡ objects (given_all fs u) (filter tied (permitted s g d u)) ∷ []
     first_gives u cs fs n tie tied bound x within scope means =
         let m : ℕ = behind_filter s (rights_of g) u cs n in
         first_means s tables d sound u n (masks s (rights_of g) u cs n ++ fields_joins fs s (rights_of g) u n m) (n + 1) _
-          (with_first u cs fs n) (first_extends u cs fs n bound x) g
-          (tree.object (pairs_of (fields_values fs s (rights_of g) (shown_look s (rights_of g) u cs n) u m)))
-          (λ far. json (obj (given_all fs u far))) scope tie tied (filter_from s (rights_of g) u cs n) (omega arith) (omega arith)
+        (with_first u cs fs n) (first_extends u cs fs n bound x) g
+        (tree.object (pairs_of (fields_values fs s (rights_of g) (shown_look s (rights_of g) u cs n) u m)))
+        (λ far. json (obj (given_all fs u far))) scope tie tied (filter_from s (rights_of g) u cs n) (omega arith) (omega arith)
         (λ far narrow. ap (λ z. json (obj z))
-           (values_all fs (shown_look s (rights_of g) u cs n) u m (behind_masks s tables d sound g u cs n far (at_row s u n scope far)) far
-              (omega arith)
-              (within (with_first u cs fs n far (at_row s u n scope far)) far (first_looks u cs fs n bound x scope far narrow))))
+        (values_all fs (shown_look s (rights_of g) u cs n) u m (behind_masks s tables d sound g u cs n far (at_row s u n scope far)) far
+        (omega arith)
+        (within (with_first u cs fs n far (at_row s u n scope far)) far (first_looks u cs fs n bound x scope far narrow))))
         means
 
     -- ---- an aggregate over a list
 
     summary_gives : (fs : List _) (o : Origin) (a : ListArguments) (t p n : ℕ) → p < n
-      → n + summary_numbers fs s (rights_of g) (origin_table o s t) a ≤ 2 ^ 64 → length (needed fs []) ≤ 2 ^ 64
-      → (scope : Scope) (row : Row) → Shows s scope t p row
+        → n + summary_numbers fs s (rights_of g) (origin_table o s t) a ≤ 2 ^ 64 → length (needed fs []) ≤ 2 ^ 64
+        → (scope : Scope) (row : Row) → Shows s scope t p row
         → rows_of (summary_select fs s (rights_of g) (origin_table o s t) a n (origin_tie o s t p n)) w scope
-          ≡ ((value_name, json (given_part (summary fs) (origin_table o s t) a (start o t row))) ∷ []) ∷ []
+        ≡ ((value_name, json (given_part (summary fs) (origin_table o s t) a (start o t row))) ∷ []) ∷ []
     summary_gives fs o a t p n lt bound few scope row shows =
         let u : ℕ = origin_table o s t in
         let tie : PredTree = origin_tie o s t p n in
@@ -385,17 +385,17 @@ module _ (s : Schema) (tables : List Table) (d : List (List Row)) (g : Grants) w
 
     mutual
       pub fields_extend : (fs : FieldTrees) (t p n : ℕ) → p < n → n + fields_numbers fs s (rights_of g) t ≤ 2 ^ 64 → AreFew fs s t
-        → Extends s w (fields_joins fs s (rights_of g) t p n) t p n (fields_numbers fs s (rights_of g) t) (with_fields fs t n)
+          → Extends s w (fields_joins fs s (rights_of g) t p n) t p n (fields_numbers fs s (rights_of g) t) (with_fields fs t n)
       fields_extend no_field t p n lt bound few = extends_none s w t p n
       fields_extend (field key f fs) t p n lt bound few =
           extends_then s w (field_joins f s (rights_of g) t p n)
-            (fields_joins fs s (rights_of g) t p (n + field_numbers f s (rights_of g) t)) t p n (field_numbers f s (rights_of g) t)
-            (fields_numbers fs s (rights_of g) t) (with_field f t n) (with_fields fs t (n + field_numbers f s (rights_of g) t))
+          (fields_joins fs s (rights_of g) t p (n + field_numbers f s (rights_of g) t)) t p n (field_numbers f s (rights_of g) t)
+          (fields_numbers fs s (rights_of g) t) (with_field f t n) (with_fields fs t (n + field_numbers f s (rights_of g) t))
           (field_extends f t p n lt (omega arith) few.0)
           (fields_extend fs t p (n + field_numbers f s (rights_of g) t) (omega arith) (omega arith) few.1)
 
       field_extends : (f : FieldTree) (t p n : ℕ) → p < n → n + field_numbers f s (rights_of g) t ≤ 2 ^ 64 → IsFew f s t
-        → Extends s w (field_joins f s (rights_of g) t p n) t p n (field_numbers f s (rights_of g) t) (with_field f t n)
+          → Extends s w (field_joins f s (rights_of g) t p n) t p n (field_numbers f s (rights_of g) t) (with_field f t n)
       field_extends (column c) t p n lt bound few = extends_none s w t p n
       field_extends (typename name) t p n lt bound few = extends_none s w t p n
       field_extends no_queries t p n lt bound few = extends_one s w (empty_select n) t p n 1 (λ row. []) (omega arith) (λ scope row shows. refl)
@@ -417,7 +417,7 @@ module _ (s : Schema) (tables : List Table) (d : List (List Row)) (g : Grants) w
           let columns : List ℕ = (table s u).key in
           let x = fields_extend fs u n (behind_filter s (rights_of g) u cs n) (omega arith) (omega arith) few in
           extends_one s w _ t p n (field_numbers (by_key u key fs) s (rights_of g) t)
-            (λ row. objects (given_all fs u) (filter (shows_key columns key (seen_by s g d) u) (permitted s g d u))) (omega arith)
+          (λ row. objects (given_all fs u) (filter (shows_key columns key (seen_by s g d) u) (permitted s g d u))) (omega arith)
           (λ scope row shows. first_gives u cs fs n (joined_by_and (key_members (table s u).columns (shown_look s (rights_of g) u cs n) columns key)) (shows_key columns key (seen_by s g d) u) bound x
           (λ e far l. looks_right (shown_look s (rights_of g) u cs n) columns (fields_used fs) e (shown s g d u far) l) scope
           (λ far narrow. key_means u (shown_look s (rights_of g) u cs n) columns key (with_first u cs fs n far (at_row s u n scope far)) far (looks_left (shown_look s (rights_of g) u cs n) columns (fields_used fs) (with_first u cs fs n far (at_row s u n scope far)) (shown s g d u far) (first_looks u cs fs n bound x scope far narrow))))
@@ -434,25 +434,25 @@ module _ (s : Schema) (tables : List Table) (d : List (List Row)) (g : Grants) w
       field_extends (introspect f) t p n lt bound few = extends_one s w (empty_select n) t p n 1 (λ row. []) (omega arith) (λ scope row shows. refl)
 
       parts_extend : (ps : PartTrees) (o : Origin) (t p : ℕ) (a : ListArguments) (n : ℕ) → p < n
-        → n + parts_numbers ps s (rights_of g) (origin_table o s t) a ≤ 2 ^ 64 → length (list_sorts s (origin_table o s t) a) ≤ 2 ^ 64
-        → AreFewParts ps s (origin_table o s t)
+          → n + parts_numbers ps s (rights_of g) (origin_table o s t) a ≤ 2 ^ 64 → length (list_sorts s (origin_table o s t) a) ≤ 2 ^ 64
+          → AreFewParts ps s (origin_table o s t)
           → Extends s w (parts_joins ps s (rights_of g) o t p a n) t p n (parts_numbers ps s (rights_of g) (origin_table o s t) a) (with_parts ps o t a n)
       parts_extend no_part o t p a n lt bound few more = extends_none s w t p n
       parts_extend (part key q ps) o t p a n lt bound few more =
           let k : ℕ = part_numbers q s (rights_of g) (origin_table o s t) a in
           extends_then s w (part_joins q s (rights_of g) o t p a n) (parts_joins ps s (rights_of g) o t p a (n + k)) t p n k
-            (parts_numbers ps s (rights_of g) (origin_table o s t) a) (with_part q o t a n) (with_parts ps o t a (n + k))
+          (parts_numbers ps s (rights_of g) (origin_table o s t) a) (with_part q o t a n) (with_parts ps o t a (n + k))
           (part_extends q o t p a n lt (omega arith) few more.0)
           (parts_extend ps o t p a (n + k) (omega arith) (omega arith) few more.1)
 
       part_extends : (q : PartTree) (o : Origin) (t p : ℕ) (a : ListArguments) (n : ℕ) → p < n
-        → n + part_numbers q s (rights_of g) (origin_table o s t) a ≤ 2 ^ 64 → length (list_sorts s (origin_table o s t) a) ≤ 2 ^ 64
-        → IsFewPart q s (origin_table o s t)
+          → n + part_numbers q s (rights_of g) (origin_table o s t) a ≤ 2 ^ 64 → length (list_sorts s (origin_table o s t) a) ≤ 2 ^ 64
+          → IsFewPart q s (origin_table o s t)
           → Extends s w (part_joins q s (rights_of g) o t p a n) t p n (part_numbers q s (rights_of g) (origin_table o s t) a) (with_part q o t a n)
       part_extends (summary fs) o t p a n lt bound few more =
           let some = summary_some fs (origin_table o s t) a in
           extends_one s w _ t p n (part_numbers (summary fs) s (rights_of g) (origin_table o s t) a)
-            (λ row. (value_name, json (given_part (summary fs) (origin_table o s t) a (start o t row))) ∷ []) some
+          (λ row. (value_name, json (given_part (summary fs) (origin_table o s t) a (start o t row))) ∷ []) some
           (λ scope row shows. ap or_null_row (summary_gives fs o a t p n lt bound more scope row shows))
       part_extends (nodes fs) o t p a n lt bound few more =
           let u : ℕ = origin_table o s t in

@@ -87,7 +87,7 @@ Differ [] = Unit {0}
 Differ (n ∷ ns) = ((c : ℕ) → bytes_eq n.name (slice_index_or ns c no_column).name ≡ false) × Differ ns
 
 cell_of_named : (columns : List Column) (row : Row) (c : ℕ) → Differ columns → length row ≤ length columns
-  → cell_named (named_row columns row) (slice_index_or columns c no_column).name ≡ row_cell row c
+    → cell_named (named_row columns row) (slice_index_or columns c no_column).name ≡ row_cell row c
 cell_of_named [] [] c d h = refl
 cell_of_named [] (x ∷ row) c d h = absurd (omega arith)
 cell_of_named (n ∷ columns) [] c d h = refl

@@ -27,7 +27,7 @@ use Rattle.hq_compiled.proofs.Bodies.{Rowwise, sorted_rows, body_rows}
 -- ---- links
 
 pub link_means : (s : Schema) (w : World) (t : ℕ) (r : Rel) (p q : ℕ) (scope : Scope) (row far : Row) → Shows s scope t p row
-  → Shows s scope r.remote q far → is_true (truth_at (link s t r p q) w scope) ≡ linked_by r.pairs row far
+    → Shows s scope r.remote q far → is_true (truth_at (link s t r p q) w scope) ≡ linked_by r.pairs row far
 link_means s w t r p q scope row far f g = true_joined w scope (link_members (table s t).columns (table s r.remote).columns p q r.pairs) ∙ go r.pairs
   where
     go : (xs : List Pair) → all_kept w scope (link_members (table s t).columns (table s r.remote).columns p q xs) ≡ linked_by xs row far
@@ -127,7 +127,7 @@ module _ (s : Schema) (tables : List Table) (d : List (List Row)) (sound : Sound
 
   mutual
     pub predicate_means : (b : BexpTree) (look : Look) (t p n : ℕ) (scope : Scope) (row : Row) → p < n → n + numbers b s m t ≤ 2 ^ 64
-      → Shows s scope t p row → Looks look (columns_in b) scope (S.cell t row)
+        → Shows s scope t p row → Looks look (columns_in b) scope (S.cell t row)
         → truth_at (predicate b s m look t p n) w scope ≡ truth b s S t row
     predicate_means always look t p n scope row lt bound shows l = refl
     predicate_means (and_of bs) look t p n scope row lt bound shows l = truth_joined w scope (predicates bs s m look t p n) ∙ all_means bs look t p n scope row lt bound shows l
@@ -148,11 +148,11 @@ module _ (s : Schema) (tables : List Table) (d : List (List Row)) (sound : Sound
         through_means r b t p n scope row lt bound shows
         (λ inner far far_shows far_looks.
         predicate_means b (m.look (rel s t r).remote (columns_in b) n) (rel s t r).remote n
-          (inner_from m (rel s t r).remote (columns_in b) n) inner far (omega arith) (omega arith) far_shows far_looks)
+        (inner_from m (rel s t r).remote (columns_in b) n) inner far (omega arith) (omega arith) far_shows far_looks)
         look
 
     all_means : (bs : BexpTrees) (look : Look) (t p n : ℕ) (scope : Scope) (row : Row) → p < n → n + numbers_all bs s m t ≤ 2 ^ 64
-      → Shows s scope t p row → Looks look (columns_in_all bs) scope (S.cell t row)
+        → Shows s scope t p row → Looks look (columns_in_all bs) scope (S.cell t row)
         → truths_all w scope (predicates bs s m look t p n) ≡ truth_of_all bs s S t row
     all_means no_bexp look t p n scope row lt bound shows l = refl
     all_means (bexp b bs) look t p n scope row lt bound shows l =
@@ -160,7 +160,7 @@ module _ (s : Schema) (tables : List Table) (d : List (List Row)) (sound : Sound
         (all_means bs look t p (n + numbers b s m t) scope row (omega arith) (omega arith) shows (looks_right look (columns_in b) (columns_in_all bs) scope (S.cell t row) l))
 
     any_means : (bs : BexpTrees) (look : Look) (t p n : ℕ) (scope : Scope) (row : Row) → p < n → n + numbers_all bs s m t ≤ 2 ^ 64
-      → Shows s scope t p row → Looks look (columns_in_all bs) scope (S.cell t row)
+        → Shows s scope t p row → Looks look (columns_in_all bs) scope (S.cell t row)
         → truths_any w scope (predicates bs s m look t p n) ≡ truth_of_any bs s S t row
     any_means no_bexp look t p n scope row lt bound shows l = refl
     any_means (bexp b bs) look t p n scope row lt bound shows l =

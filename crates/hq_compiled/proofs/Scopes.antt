@@ -70,7 +70,7 @@ pub knows_right : (s : Schema) (scope : Aliases) (t : ℕ) (look : Look) (cs ds 
 knows_right s scope t look cs ds k c has used = k c has (used_right c cs ds used)
 
 pub column_kind : (columns : List Column) (c : ℕ) → Differ columns → c < length columns
-  → kind_named (kinds_of columns) (name_of columns c) ≡ Some (kind_of_type (slice_index_or columns c no_column).ty)
+    → kind_named (kinds_of columns) (name_of columns c) ≡ Some (kind_of_type (slice_index_or columns c no_column).ty)
 column_kind [] c d lt = absurd (omega arith)
 column_kind (n ∷ columns) zero d lt = rw (same_text n.name) refl
 column_kind (n ∷ columns) (suc c) d lt = rw (d.0 c) (column_kind columns c d.1 (omega arith))

@@ -55,11 +55,11 @@ permitted_filter s g d u test p e =
     filter_filter p counts (sort (columns_cmp (table s u).key) (table_rows d u))
     ∙ sort_filter (columns_total (table s u).key) (λ r. counts r && p r) (table_rows d u)
     ∙ ap (sort (columns_cmp (table s u).key))
-      (filter_on (λ (r : Row). Unit {0}) (λ r. counts r && p r) test (λ r h. e r) (table_rows d u)
-         (each_all (λ (r : Row). Unit {0}) (λ r. tt) (table_rows d u)))
+    (filter_on (λ (r : Row). Unit {0}) (λ r. counts r && p r) test (λ r h. e r) (table_rows d u)
+    (each_all (λ (r : Row). Unit {0}) (λ r. tt) (table_rows d u)))
 
 module _ (s : Schema) (tables : List Table) (d : List (List Row)) (sound : Sound s tables d) (u n : ℕ) (J : List JoinTree) (m k : ℕ)
-  (F : Row → Scope → Scope) (x : Extends s (record { tables = tables; database = d }) J u n m k F) where
+    (F : Row → Scope → Scope) (x : Extends s (record { tables = tables; database = d }) J u n m k F) where
   abbrev w : World
   w = record { tables = tables; database = d }
 

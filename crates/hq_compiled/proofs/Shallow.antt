@@ -152,7 +152,7 @@ higher_joins k m (j ∷ js) le h = (let one = h.0 in omega (arith, one, le), hig
 
 rows_low : (k : ℕ) (distinct : List ExprTree) (outs : List OutTree) (from : FromTree) (js : JoinTrees) (f : FilterTree) (keys : List OrderTree) (limit offset : Option ℕ)
     → distinct_depth distinct ≤ k → greatest (map (λ o. expr_depth o.value) outs) ≤ k → from_depth from ≤ k → joins_depth js ≤ k
-      → filter_depth f ≤ k → greatest (map (λ o. expr_depth o.value) keys) ≤ k
+    → filter_depth f ≤ k → greatest (map (λ o. expr_depth o.value) keys) ≤ k
     → select_depth (tree.rows distinct outs from js f keys limit offset) ≤ k
 rows_low k distinct outs from js f keys limit offset a b c d e g = max-le a (max-le b (max-le c (max-le d (max-le e g))))
 
@@ -199,8 +199,8 @@ module _ (s : Schema) (m : Mode) (G : ℕ) (h : LowMode m G) where
         let j : joins_depth (joins_of (m.joins u (columns_in b) n)) ≤ 1 + k = let q = joins_low (G + 1) (m.joins u (columns_in b) n) (h.joins u (columns_in b) n) in omega (arith, q) in
         let z : 0 ≤ 1 + k = omega arith in
         let rows =
-            rows_low (1 + k) [] (record { value = tree.bool true; name = unit_name } ∷ [])
-              (tree.table (table s u).schema (table s u).name (table_alias n)) (joins_of (m.joins u (columns_in b) n))
+        rows_low (1 + k) [] (record { value = tree.bool true; name = unit_name } ∷ [])
+        (tree.table (table s u).schema (table s u).name (table_alias n)) (joins_of (m.joins u (columns_in b) n))
         (where_of (with_member L (with_member A (with_member B [])))) [] None None z z z j f z in
         omega (arith, rows)
 
@@ -226,8 +226,8 @@ masks_low (m ∷ ms) s t p n F h =
     let z : 0 ≤ 2 * F + 2 = omega arith in
     let f : filter_depth (where_of (with_member shown [])) ≤ 2 * F + 2 = lone_low (2 * F + 2) shown one in
     let rows : select_depth (mask_select m s t p n) ≤ 2 * F + 2 =
-        rows_low (2 * F + 2) [] (record { value = cell_at (own_look (table s t).columns p m.column); name = value_name } ∷ [])
-          (tree.one (table_alias n)) tree.no_join (where_of (with_member shown [])) [] None None z z (omega arith) z f z in
+    rows_low (2 * F + 2) [] (record { value = cell_at (own_look (table s t).columns p m.column); name = value_name } ∷ [])
+    (tree.one (table_alias n)) tree.no_join (where_of (with_member shown [])) [] None None z z (omega arith) z f z in
     (omega (arith, rows), masks_low ms s t p (n + (1 + own_numbers m.shown s t)) F h.1)
 
 -- ---- sort keys and values
@@ -294,8 +294,8 @@ module _ (f : ExprTree → AggTree) (flat : (e : ExprTree) → expr_depth e ≡ 
   taken_low columns n cs [] = omega arith
   taken_low columns n cs (k ∷ ks) =
       let go : (c : AggCol) → expr_depth (taken_value f columns n cs c) ≤ 1 =
-          elim
-            [ of.Column c ↦ rw (flat (needed_cell n cs c (is_text_column columns c)) refl) (omega arith) | of.Typename name ↦ omega arith ] in
+      elim
+      [ of.Column c ↦ rw (flat (needed_cell n cs c (is_text_column columns c)) refl) (omega arith) | of.Typename name ↦ omega arith ] in
       max-le (go k.field) (taken_low columns n cs ks)
 
 count_low : (columns : List Column) (n : ℕ) (cs : List ℕ) (c : Option ℕ) (distinct : Bool) → expr_depth (count_value columns n cs c distinct) ≤ 1
@@ -357,16 +357,16 @@ module _ (s : Schema) (g : Rights) (F : ℕ) (low : LowRights g F) where
   }
 
   first_low : (t n k : ℕ) (tie : PredTree) (from : ℕ) (e : ExprTree) (js : List JoinTree) → 2 * F + 4 ≤ k → pred_depth tie ≤ 2 * F + 3
-    → expr_depth e ≤ k → LowJoins k js → select_depth (first_select s t n tie (filter_predicate s g t n from) e js) ≤ k
+      → expr_depth e ≤ k → LowJoins k js → select_depth (first_select s t n tie (filter_predicate s g t n from) e js) ≤ k
   first_low t n k tie from e js le l value joins =
       let a : pred_depth (filter_predicate s g t n from) ≤ 2 * F + 3 = let q = own_low (g.filter t) s t n from F (low.0 t) in omega (arith, q) in
       let f : filter_depth (where_of (with_member tie (with_member (filter_predicate s g t n from) []))) ≤ k =
-          let q = two_low (2 * F + 3) tie (filter_predicate s g t n from) l a in omega (arith, q, le) in
+      let q = two_low (2 * F + 3) tie (filter_predicate s g t n from) l a in omega (arith, q, le) in
       let z : 0 ≤ k = omega arith in
       let keys : greatest (map (λ o. expr_depth o.value) (key_orders (table s t).columns n (table s t).key)) ≤ k = rw (keys_flat (table s t).columns n (table s t).key) z in
       rows_low k [] (record { value = e; name = value_name } ∷ []) (tree.table (table s t).schema (table s t).name (table_alias n))
-        (joins_of js) (where_of (with_member tie (with_member (filter_predicate s g t n from) [])))
-        (key_orders (table s t).columns n (table s t).key) (Some 1) None z (max-le value z) z (joins_low k js joins) f keys
+      (joins_of js) (where_of (with_member tie (with_member (filter_predicate s g t n from) [])))
+      (key_orders (table s t).columns n (table s t).key) (Some 1) None z (max-le value z) z (joins_low k js joins) f keys
 
   sort_low : (rs : List ℕ) (t p n c k : ℕ) → length rs + (2 * F + 4) ≤ k → LowJoins k (sort_joins rs s g t p n c)
   sort_low [] t p n c k le = tt
@@ -379,9 +379,9 @@ module _ (s : Schema) (g : Rights) (F : ℕ) (low : LowRights g F) where
       let later : List JoinTree = sort_joins rs s g u n next c in
       let inner = append_low m (masks s g u cs n) later (higher_joins (2 * F + 3) m (masks s g u cs n) (omega arith) (used_low u cs n (n + 1))) (sort_low rs u n next c m (omega arith)) in
       let first =
-          first_low u n m (link s t (rel s t r) p n) (filter_from s g u cs n)
-            (cell_at (sort_place false rs s (shown_look s g u cs n) u n next c)) (masks s g u cs n ++ later) (omega arith) tie (omega arith)
-            inner in
+      first_low u n m (link s t (rel s t r) p n) (filter_from s g u cs n)
+      (cell_at (sort_place false rs s (shown_look s g u cs n) u n next c)) (masks s g u cs n ++ later) (omega arith) tie (omega arith)
+      inner in
       (omega (arith, first, le), tt)
 
   sorts_low : (ks : List Sort) (t p n k C : ℕ) → Each (λ x. length x.key.through ≤ C) ks → C + (2 * F + 4) ≤ k → LowJoins k (sorts_joins ks s g t p n)
@@ -389,7 +389,7 @@ module _ (s : Schema) (g : Rights) (F : ℕ) (low : LowRights g F) where
   sorts_low (x ∷ ks) t p n k C h le =
       let next : ℕ = n + sort_numbers x.key.through s g t x.key.column in
       append_low k (sort_joins x.key.through s g t p n x.key.column) (sorts_joins ks s g t p next)
-        (sort_low x.key.through t p n x.key.column k (let one = h.0 in omega (arith, one, le))) (sorts_low ks t p next k C h.1 le)
+      (sort_low x.key.through t p n x.key.column k (let one = h.0 in omega (arith, one, le))) (sorts_low ks t p next k C h.1 le)
 
   tie_low : (o : Origin) (t p n : ℕ) → pred_depth (origin_tie o s t p n) ≤ 2
   tie_low (from_table u) t p n = omega arith
@@ -401,7 +401,7 @@ module _ (s : Schema) (g : Rights) (F : ℕ) (low : LowRights g F) where
 
     list_rows_low : (t : ℕ) (cs : List ℕ) (a : ListArguments) (n k : ℕ) (tie : PredTree) (limit : Option ℕ) (outs : List OutTree)
         (children : List JoinTree)
-      → AreShort a X C → base ≤ k → pred_depth tie ≤ 2
+        → AreShort a X C → base ≤ k → pred_depth tie ≤ 2
         → greatest (map (λ o. expr_depth o.value) outs) ≤ k → LowJoins k children → select_depth (list_rows s g t cs a n tie limit outs children) ≤ k
     list_rows_low t cs a n k tie limit outs children short le l values joins =
         let c : ℕ = 2 * X + 2 * F + 4 in
@@ -415,39 +415,39 @@ module _ (s : Schema) (g : Rights) (F : ℕ) (low : LowRights g F) where
         let later : List JoinTree = sorts_joins (list_sorts s t a) s g t n (sorts_from s g t cs a n) ++ children in
         let all = append_low k (masks s g t cs n) later (higher_joins (2 * F + 3) k (masks s g t cs n) (omega (arith, le)) (used_low t cs n (n + 1)))
         (append_low k (sorts_joins (list_sorts s t a) s g t n (sorts_from s g t cs a n)) children
-             (sorts_low (list_sorts s t a) t n (sorts_from s g t cs a n) k C
-                (sorts_short (entries a) (table s t).key C (entries_short a.sorts a.distinct C short.1)) (omega (arith, le)))
-             joins)
-          in
+        (sorts_low (list_sorts s t a) t n (sorts_from s g t cs a n) k C
+        (sorts_short (entries a) (table s t).key C (entries_short a.sorts a.distinct C short.1)) (omega (arith, le)))
+        joins)
+        in
         let z : 0 ≤ k = omega arith in
         let keys : greatest
-              (map (λ o. expr_depth o.value) (orders (list_sorts s t a) s g (shown_look s g t cs n) t n (sorts_from s g t cs a n)))
-            ≤ k =
-            rw (orders_flat (list_sorts s t a) s g (shown_look s g t cs n) t n (sorts_from s g t cs a n)) z in
+        (map (λ o. expr_depth o.value) (orders (list_sorts s t a) s g (shown_look s g t cs n) t n (sorts_from s g t cs a n)))
+        ≤ k =
+        rw (orders_flat (list_sorts s t a) s g (shown_look s g t cs n) t n (sorts_from s g t cs a n)) z in
         let distinct : distinct_depth (distinct_columns (table s t).columns (shown_look s g t cs n) a.distinct) ≤ k =
-            let q = distinct_low (table s t).columns (shown_look s g t cs n) a.distinct in omega (arith, q, le) in
+        let q = distinct_low (table s t).columns (shown_look s g t cs n) a.distinct in omega (arith, q, le) in
         rows_low k (distinct_columns (table s t).columns (shown_look s g t cs n) a.distinct) outs
-          (tree.table (table s t).schema (table s t).name (table_alias n)) (joins_of (masks s g t cs n ++ later))
-          (where_of (with_member tie (with_member A (with_member B []))))
+        (tree.table (table s t).schema (table s t).name (table_alias n)) (joins_of (masks s g t cs n ++ later))
+        (where_of (with_member tie (with_member A (with_member B []))))
         (orders (list_sorts s t a) s g (shown_look s g t cs n) t n (sorts_from s g t cs a n)) limit a.offset distinct values z (joins_low k (masks s g t cs n ++ later) all) condition keys
 
     list_select_low : (t : ℕ) (cs : List ℕ) (a : ListArguments) (n k : ℕ) (tie : PredTree) (values : List PairTree)
         (children : List JoinTree)
-      → AreShort a X C → base ≤ k → pred_depth tie ≤ 2 → pairs_depth (pairs_of values) ≡ 0
+        → AreShort a X C → base ≤ k → pred_depth tie ≤ 2 → pairs_depth (pairs_of values) ≡ 0
         → LowJoins k children → select_depth (list_select s g t cs a n tie values children) ≤ 1 + k
     list_select_low t cs a n k tie values children short le l flat joins =
         let ks : List Sort = list_sorts s t a in
         let value : expr_depth (tree.object (pairs_of values)) ≤ k = rw flat (omega (arith, le)) in
         let others : greatest (map (λ o. expr_depth o.value) (key_outputs ks s g (shown_look s g t cs n) t n (sorts_from s g t cs a n) 0))
-            ≤ k =
-            rw (outputs_flat ks s g (shown_look s g t cs n) t n (sorts_from s g t cs a n) 0) (omega arith) in
+        ≤ k =
+        rw (outputs_flat ks s g (shown_look s g t cs n) t n (sorts_from s g t cs a n) 0) (omega arith) in
         let rows = list_rows_low t cs a n k tie (smaller a.limit (g.limit t)) (list_outputs s g t cs a n values) children short le l (max-le value others) joins in
         let array : 1 + (1 + max 0 (orders_depth (orders_of (output_orders ks s t n 0)))) ≤ 1 + k = rw (output_orders_flat ks s t n 0) (omega (arith, le)) in
         let inner : 1 + select_depth (list_rows s g t cs a n tie (smaller a.limit (g.limit t)) (list_outputs s g t cs a n values) children) ≤ 1 + k = omega (arith, rows) in
         max-le array inner
 
     summary_select_low : (fs : List KeyedAggField) (t : ℕ) (a : ListArguments) (n k : ℕ) (tie : PredTree) → AreShort a X C → base ≤ k
-      → pred_depth tie ≤ 2 → select_depth (summary_select fs s g t a n tie) ≤ 1 + k
+        → pred_depth tie ≤ 2 → select_depth (summary_select fs s g t a n tie) ≤ 1 + k
     summary_select_low fs t a n k tie short le l =
         let cs : List ℕ = needed fs [] in
         let used : List ℕ = summary_used s t a fs in
@@ -462,7 +462,7 @@ module _ (s : Schema) (g : Rights) (F : ℕ) (low : LowRights g F) where
               let inner : 1 + select_depth (list_rows s g t used a n tie a.limit (needed_outputs (shown_look s g t used n) cs) []) ≤ 1 + k = omega (arith, rows) in
               max-le value inner
           | false
-            ↦ rows_low (1 + k) []
+              ↦ rows_low (1 + k) []
               (record { value = tree.object (pairs_of (summary_pairs (table s t).columns n cs fs)); name = value_name } ∷ [])
               (tree.one (table_alias n)) tree.no_join tree.no_filter [] None None z (max-le value z) (omega arith) z z z
         ] in
@@ -471,16 +471,16 @@ module _ (s : Schema) (g : Rights) (F : ℕ) (low : LowRights g F) where
     empty_low : (n k : ℕ) → 1 ≤ k → select_depth (empty_select n) ≤ k
     empty_low n k le =
         let z : 0
-          ≤ k = omega arith in rows_low k [] (record { value = tree.object tree.no_pair; name = value_name } ∷ [])
-            (tree.one (table_alias n)) tree.no_join (tree.filter tree.never) [] None None z (max-le le z) le z z z
+        ≤ k = omega arith in rows_low k [] (record { value = tree.object tree.no_pair; name = value_name } ∷ [])
+        (tree.one (table_alias n)) tree.no_join (tree.filter tree.never) [] None None z (max-le le z) le z z z
 
     -- the first row's object, and a list, of fields whose joins are given
     first_of : (fs : FieldTrees) (u n k : ℕ) (cs : List ℕ) (tie : PredTree) → base ≤ k → pred_depth tie ≤ 2 * F + 3 → LowJoins k (fields_joins fs s g u n (behind_filter s g u cs n))
         → select_depth
-            (first_select s u n tie (filter_predicate s g u n (filter_from s g u cs n))
-               (tree.object (pairs_of (fields_values fs s g (shown_look s g u cs n) u (behind_filter s g u cs n))))
-               (masks s g u cs n ++ fields_joins fs s g u n (behind_filter s g u cs n)))
-          ≤ k
+        (first_select s u n tie (filter_predicate s g u n (filter_from s g u cs n))
+        (tree.object (pairs_of (fields_values fs s g (shown_look s g u cs n) u (behind_filter s g u cs n))))
+        (masks s g u cs n ++ fields_joins fs s g u n (behind_filter s g u cs n)))
+        ≤ k
     first_of fs u n k cs tie le l joins =
         let next : ℕ = behind_filter s g u cs n in
         let later : List JoinTree = fields_joins fs s g u n next in
@@ -489,10 +489,10 @@ module _ (s : Schema) (g : Rights) (F : ℕ) (low : LowRights g F) where
         first_low u n k tie (filter_from s g u cs n) (tree.object (pairs_of (fields_values fs s g (shown_look s g u cs n) u next))) (masks s g u cs n ++ later) (omega (arith, le)) l value inner
 
     list_of : (fs : FieldTrees) (u : ℕ) (a : ListArguments) (n k : ℕ) (tie : PredTree) → AreShort a X C → base ≤ k → pred_depth tie ≤ 2
-      → LowJoins k (fields_joins fs s g u n (children_from s g u (list_used s u a (fields_used fs)) a n))
+        → LowJoins k (fields_joins fs s g u n (children_from s g u (list_used s u a (fields_used fs)) a n))
         → select_depth (list_select s g u (list_used s u a (fields_used fs)) a n tie
-          (fields_values fs s g (shown_look s g u (list_used s u a (fields_used fs)) n) u
-             (children_from s g u (list_used s u a (fields_used fs)) a n))
+        (fields_values fs s g (shown_look s g u (list_used s u a (fields_used fs)) n) u
+        (children_from s g u (list_used s u a (fields_used fs)) a n))
         (fields_joins fs s g u n (children_from s g u (list_used s u a (fields_used fs)) a n))) ≤ 1 + k
     list_of fs u a n k tie short le l joins =
         let cs : List ℕ = list_used s u a (fields_used fs) in
@@ -508,7 +508,7 @@ module _ (s : Schema) (g : Rights) (F : ℕ) (low : LowRights g F) where
           let x = le-max_left (field_height f) (fields_height fs) in
           let y = le-max_right (field_height f) (fields_height fs) in
           append_low k (field_joins f s g t p n) (fields_joins fs s g t p (n + field_numbers f s g t))
-            (field_low f k t p n h.0 (omega (arith, le, x))) (fields_low fs k t p (n + field_numbers f s g t) h.1 (omega (arith, le, y)))
+          (field_low f k t p n h.0 (omega (arith, le, x))) (fields_low fs k t p (n + field_numbers f s g t) h.1 (omega (arith, le, y)))
 
       field_low : (f : FieldTree) (k t p n : ℕ) → IsLow f X C → 2 * field_height f + base ≤ k → LowJoins k (field_joins f s g t p n)
       field_low (column c) k t p n h le = tt
@@ -539,21 +539,21 @@ module _ (s : Schema) (g : Rights) (F : ℕ) (low : LowRights g F) where
           let value : expr_depth (tree.object (pairs_of (parts_values ps s g u a (n + 1)))) ≤ m = rw (parts_flat ps s g u a (n + 1)) (omega arith) in
           let inner = parts_low ps o m t p a (n + 1) h.0 h.1 (omega arith) in
           let rows =
-              rows_low m [] (record { value = tree.object (pairs_of (parts_values ps s g u a (n + 1))); name = value_name } ∷ [])
-                (tree.one (table_alias n)) (joins_of (parts_joins ps s g o t p a (n + 1))) tree.no_filter [] None None z (max-le value z)
-                (omega arith) (joins_low m (parts_joins ps s g o t p a (n + 1)) inner) z z in
+          rows_low m [] (record { value = tree.object (pairs_of (parts_values ps s g u a (n + 1))); name = value_name } ∷ [])
+          (tree.one (table_alias n)) (joins_of (parts_joins ps s g o t p a (n + 1))) tree.no_filter [] None None z (max-le value z)
+          (omega arith) (joins_low m (parts_joins ps s g o t p a (n + 1)) inner) z z in
           (omega (arith, rows, le), tt)
       field_low (introspect f) k t p n h le = (let q = empty_low n 1 (omega arith) in omega (arith, q, le), tt)
 
       parts_low : (ps : PartTrees) (o : Origin) (k t p : ℕ) (a : ListArguments) (n : ℕ) → AreShort a X C → AreLowParts ps X C
-        → 2 * parts_height ps + base ≤ k → LowJoins k (parts_joins ps s g o t p a n)
+          → 2 * parts_height ps + base ≤ k → LowJoins k (parts_joins ps s g o t p a n)
       parts_low no_part o k t p a n short h le = tt
       parts_low (part key q ps) o k t p a n short h le =
           let x = le-max_left (part_height q) (parts_height ps) in
           let y = le-max_right (part_height q) (parts_height ps) in
           append_low k (part_joins q s g o t p a n) (parts_joins ps s g o t p a (n + part_numbers q s g (origin_table o s t) a))
-            (part_low q o k t p a n short h.0 (omega (arith, le, x)))
-            (parts_low ps o k t p a (n + part_numbers q s g (origin_table o s t) a) short h.1 (omega (arith, le, y)))
+          (part_low q o k t p a n short h.0 (omega (arith, le, x)))
+          (parts_low ps o k t p a (n + part_numbers q s g (origin_table o s t) a) short h.1 (omega (arith, le, y)))
 
       part_low : (q : PartTree) (o : Origin) (k t p : ℕ) (a : ListArguments) (n : ℕ) → AreShort a X C → IsLowPart q X C → 2 * part_height q + base ≤ k → LowJoins k (part_joins q s g o t p a n)
       part_low (summary fs) o k t p a n short h le =
@@ -573,10 +573,10 @@ is_shallow fs s g F X C low short =
     let z : 0 ≤ k = omega arith in
     let joins = fields_low s g F low X C fs k (length s) 0 1 short (omega arith) in
     let value : expr_depth (tree.object (pairs_of (fields_values fs s g (own_look (table s (length s)).columns 0) (length s) 1))) ≤ k =
-        rw (fields_flat fs s g (own_look (table s (length s)).columns 0) (length s) 1) (omega arith) in
+    rw (fields_flat fs s g (own_look (table s (length s)).columns 0) (length s) 1) (omega arith) in
     rows_low k []
-      (record
-           { value = tree.object (pairs_of (fields_values fs s g (own_look (table s (length s)).columns 0) (length s) 1)); name = value_name }
-         ∷ [])
-      (tree.one (table_alias 0)) (joins_of (fields_joins fs s g (length s) 0 1)) tree.no_filter [] None None
+    (record
+    { value = tree.object (pairs_of (fields_values fs s g (own_look (table s (length s)).columns 0) (length s) 1)); name = value_name }
+    ∷ [])
+    (tree.one (table_alias 0)) (joins_of (fields_joins fs s g (length s) 0 1)) tree.no_filter [] None None
     z (max-le value z) (omega arith) (joins_low k (fields_joins fs s g (length s) 0 1) joins) z z

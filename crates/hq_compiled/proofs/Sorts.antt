@@ -81,12 +81,12 @@ module _ (s : Schema) (g : Grants) (d : List (List Row)) where
   SortsShown [] look t p n e row = Unit {0}
   SortsShown (k ∷ ks) look t p n e row =
       (cell_named (e (sort_place k.own k.key.through s look t p n k.key.column).alias)
-           (sort_place k.own k.key.through s look t p n k.key.column).name
-         ≡ sort_cell k.own k.key.through t k.key.column row)
+      (sort_place k.own k.key.through s look t p n k.key.column).name
+      ≡ sort_cell k.own k.key.through t k.key.column row)
       × SortsShown ks look t p (n + sort_numbers k.key.through s (rights_of g) t k.key.column) e row
 
   pub orders_shown : (ks : List Sort) (look : Look) (t p n : ℕ) (e f : Scope) (x y : Row) → SortsShown ks look t p n e x
-    → SortsShown ks look t p n f y → order_cmp (orders ks s (rights_of g) look t p n) e f ≡ sorts_cmp ks t x y
+      → SortsShown ks look t p n f y → order_cmp (orders ks s (rights_of g) look t p n) e f ≡ sorts_cmp ks t x y
   orders_shown [] look t p n e f x y a b = refl
   orders_shown (k ∷ ks) look t p n e f x y a b = rw (a.0, b.0, orders_shown ks look t p (n + sort_numbers k.key.through s (rights_of g) t k.key.column) e f x y a.1 b.1) refl
 
@@ -96,13 +96,13 @@ module _ (s : Schema) (g : Grants) (d : List (List Row)) where
   Carries r (k ∷ ks) t i x = (cell_named r (key_name i) ≡ sort_cell k.own k.key.through t k.key.column x) × Carries r ks t (i + 1) x
 
   pub carries_behind : (r : NamedRow) (name : List ℕ) (c : CellTree) (ks : List Sort) (t i : ℕ) (x : Row)
-    → ((j : ℕ) → i ≤ j → j < i + length ks → bytes_eq name (key_name j) ≡ false) → Carries r ks t i x → Carries ((name, c) ∷ r) ks t i x
+      → ((j : ℕ) → i ≤ j → j < i + length ks → bytes_eq name (key_name j) ≡ false) → Carries r ks t i x → Carries ((name, c) ∷ r) ks t i x
   carries_behind r name c [] t i x ne h = tt
   carries_behind r name c (k ∷ ks) t i x ne h =
       (rw (ne i (omega arith) (omega arith)) h.0, carries_behind r name c ks t (i + 1) x (λ j a b. ne j (omega arith) (omega arith)) h.1)
 
   pub carries_keys : (ks : List Sort) (look : Look) (t p n i : ℕ) (scope : Scope) (x : Row) → SortsShown ks look t p n scope x
-    → i + length ks ≤ 2 ^ 64 → Carries (outputs (key_outputs ks s (rights_of g) look t p n i) [] scope) ks t i x
+      → i + length ks ≤ 2 ^ 64 → Carries (outputs (key_outputs ks s (rights_of g) look t p n i) [] scope) ks t i x
   carries_keys [] look t p n i scope x h bound = tt
   carries_keys (k ∷ ks) look t p n i scope x h bound = (
     rw (same_text (key_name i)) h.0,
@@ -111,7 +111,7 @@ module _ (s : Schema) (g : Grants) (d : List (List Row)) where
   )
 
   pub fold_orders : (n : ℕ) (ks : List Sort) (t i : ℕ) (e f : Scope) (x y : Row) → Carries (e (fold_alias n)) ks t i x
-    → Carries (f (fold_alias n)) ks t i y → orders_cmp (orders_of (output_orders ks s t n i)) e f ≡ sorts_cmp ks t x y
+      → Carries (f (fold_alias n)) ks t i y → orders_cmp (orders_of (output_orders ks s t n i)) e f ≡ sorts_cmp ks t x y
   fold_orders n [] t i e f x y a b = refl
   fold_orders n (k ∷ ks) t i e f x y a b = rw (a.0, b.0, fold_orders n ks t (i + 1) e f x y a.1 b.1) refl
 
@@ -120,7 +120,7 @@ module _ (s : Schema) (g : Grants) (d : List (List Row)) where
     w = record { tables = tables; database = d }
 
     pub sort_extends : (through : List ℕ) (t p n c : ℕ) → p < n → n + sort_numbers through s (rights_of g) t c ≤ 2 ^ 64
-      → Extends s w (sort_joins through s (rights_of g) t p n c) t p n (sort_numbers through s (rights_of g) t c) (with_sort through t n c)
+        → Extends s w (sort_joins through s (rights_of g) t p n c) t p n (sort_numbers through s (rights_of g) t c) (with_sort through t n c)
     sort_extends [] t p n c lt bound = extends_none s w t p n
     sort_extends (r ∷ rs) t p n c lt bound =
         let u : ℕ = (rel s t r).remote in
@@ -130,31 +130,31 @@ module _ (s : Schema) (g : Grants) (d : List (List Row)) where
         let inner = sort_extends rs u n m c (omega arith) (omega arith) in
         let F : Row → Scope → Scope = λ far e. with_sort rs u m c far (behind_masks s tables d sound g u cs n far e) in
         let all =
-            extends_apart s w (masks s (rights_of g) u cs n) (sort_joins rs s (rights_of g) u n m c) u n (n + 1)
-              (extra s (rights_of g) u cs) m (sort_numbers rs s (rights_of g) u c) k (behind_masks s tables d sound g u cs n)
-              (with_sort rs u m c) (omega arith) (omega arith) (masks_at s tables d sound g u n cs (omega arith)) inner in
+        extends_apart s w (masks s (rights_of g) u cs n) (sort_joins rs s (rights_of g) u n m c) u n (n + 1)
+        (extra s (rights_of g) u cs) m (sort_numbers rs s (rights_of g) u c) k (behind_masks s tables d sound g u cs n)
+        (with_sort rs u m c) (omega arith) (omega arith) (masks_at s tables d sound g u n cs (omega arith)) inner in
         extends_one s w _ t p n (sort_numbers (r ∷ rs) s (rights_of g) t c) (λ row. first_named (map (shown_cell rs s (seen_by s g d) u c) (related s (seen_by s g d) t r row))) (omega arith)
         (λ scope row shows.
         first_means s tables d sound u n (masks s (rights_of g) u cs n ++ sort_joins rs s (rights_of g) u n m c) (n + 1) k F all g
         (cell_at (sort_place false rs s (shown_look s (rights_of g) u cs n) u n m c)) (shown_cell rs s (seen_by s g d) u c) scope
-          (link s t (rel s t r) p n) (linked_by (rel s t r).pairs row) (filter_from s (rights_of g) u cs n) (omega arith) (omega arith)
+        (link s t (rel s t r) p n) (linked_by (rel s t r).pairs row) (filter_from s (rights_of g) u cs n) (omega arith) (omega arith)
         (λ far narrow. sort_shown false rs (shown_look s (rights_of g) u cs n) u n m c
-          (behind_masks s tables d sound g u cs n far (at_row s u n scope far)) (F far (at_row s u n scope far)) far
-          (behind_shows s tables d sound u n _ _ _ _ all scope far narrow)
+        (behind_masks s tables d sound g u cs n far (at_row s u n scope far)) (F far (at_row s u n scope far)) far
+        (behind_shows s tables d sound u n _ _ _ _ all scope far narrow)
         (looks_later s tables d sound g u n cs (sort_joins rs s (rights_of g) u n m c) u n m (sort_numbers rs s (rights_of g) u c)
-          (with_sort rs u m c) inner (omega arith) (omega arith) (behind_masks s tables d sound g u cs n far (at_row s u n scope far)) far
-          (shown s g d u far)
+        (with_sort rs u m c) inner (omega arith) (omega arith) (behind_masks s tables d sound g u cs n far (at_row s u n scope far)) far
+        (shown s g d u far)
         (looks_at s tables d sound g u n cs (at_row s u n scope far) far (omega arith) (shows_row s scope u n far (sound.differ u) narrow)))
         (λ q qs some. refl))
         (λ far narrow. link_means s w t (rel s t r) p n _ row far (behind_above s tables d sound u n _ _ _ _ all scope far t p row lt (omega arith) shows) (behind_shows s tables d sound u n _ _ _ _ all scope far narrow)))
 
     pub sorts_extend : (ks : List Sort) (t p n : ℕ) → p < n → n + sorts_numbers ks s (rights_of g) t ≤ 2 ^ 64
-      → Extends s w (sorts_joins ks s (rights_of g) t p n) t p n (sorts_numbers ks s (rights_of g) t) (with_sorts ks t n)
+        → Extends s w (sorts_joins ks s (rights_of g) t p n) t p n (sorts_numbers ks s (rights_of g) t) (with_sorts ks t n)
     sorts_extend [] t p n lt bound = extends_none s w t p n
     sorts_extend (k ∷ ks) t p n lt bound =
         let l : ℕ = sort_numbers k.key.through s (rights_of g) t k.key.column in
         extends_then s w (sort_joins k.key.through s (rights_of g) t p n k.key.column) (sorts_joins ks s (rights_of g) t p (n + l)) t p n l
-          (sorts_numbers ks s (rights_of g) t) (with_sort k.key.through t n k.key.column) (with_sorts ks t (n + l))
+        (sorts_numbers ks s (rights_of g) t) (with_sort k.key.through t n k.key.column) (with_sorts ks t (n + l))
         (sort_extends k.key.through t p n k.key.column lt (omega arith))
         (sorts_extend ks t p (n + l) (omega arith) (omega arith))
 
@@ -164,7 +164,7 @@ module _ (s : Schema) (g : Grants) (d : List (List Row)) where
     some_number (q ∷ qs) t c r rs e = omega arith
 
     pub sorts_shown : (ks : List Sort) (look : Look) (t p n : ℕ) (scope e : Scope) (row : Row) → p < n
-      → n + sorts_numbers ks s (rights_of g) t ≤ 2 ^ 64 → Shows s e t p row → Looks look (used_sorts ks) e (shown s g d t row)
+        → n + sorts_numbers ks s (rights_of g) t ≤ 2 ^ 64 → Shows s e t p row → Looks look (used_sorts ks) e (shown s g d t row)
         → ((m : ℕ) → n ≤ m → m < n + sorts_numbers ks s (rights_of g) t → e (join_alias m) ≡ with_sorts ks t n row scope (join_alias m)) → SortsShown ks look t p n e row
     sorts_shown [] look t p n scope e row lt bound shows l same = tt
     sorts_shown (k ∷ ks) look t p n scope e row lt bound shows l same =

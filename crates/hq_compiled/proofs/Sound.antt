@@ -71,7 +71,7 @@ schema_is meta k (x ∷ tables) (suc t) = schema_is meta (suc k) tables t
 
 -- a table of the catalog in its schema
 pub catalog_table : (meta : MetaTree) (k : ℕ) (tables : List Table) (t : ℕ) (x : Table) → t < length tables → x ≡ slice_index_or tables t x
-  → IsOf (slice_index_or (numbered (schema_table meta) k tables) t no_table) x
+    → IsOf (slice_index_or (numbered (schema_table meta) k tables) t no_table) x
 catalog_table meta k [] t x lt e = absurd (omega arith)
 catalog_table meta k (y ∷ tables) zero x lt e = record { schema = ap (λ z. z.schema) (sym e); name = ap (λ z. z.name) (sym e); columns = ap (λ z. z.columns) (sym e); key = ap (λ z. z.key) (sym e) }
 catalog_table meta k (y ∷ tables) (suc t) x lt e = catalog_table meta (suc k) tables t x (omega arith) e
@@ -142,7 +142,7 @@ abbrev pub same_full : Table → Table → Bool
 same_full t u = bytes_eq (full_name t) (full_name u)
 
 pub other_table : (x : Table) (tables : List Table) (t : ℕ) → IsNamed x → list_any (same_full x) tables ≡ false
-  → (bytes_eq x.schema (table_at tables t).schema && bytes_eq x.name (table_at tables t).name) ≡ false
+    → (bytes_eq x.schema (table_at tables t).schema && bytes_eq x.name (table_at tables t).name) ≡ false
 other_table x [] t n h = rw (not_empty x.schema n.schema) refl
 other_table x (u ∷ tables) zero n h = names_differ x u (neither (same_full x u) (list_any (same_full x) tables) h).0
 other_table x (u ∷ tables) (suc t) n h = other_table x tables t n (neither (same_full x u) (list_any (same_full x) tables) h).1

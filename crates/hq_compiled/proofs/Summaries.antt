@@ -137,7 +137,7 @@ place_range c (d ∷ ds) i h =
     go (c == d) h
 
 column_found : (look : Look) (e : Scope) (cell : ℕ → CellTree) (cs : List ℕ) → Looks look cs e cell → (i c : ℕ) → is_used c cs ≡ true
-  → i + length cs ≤ 2 ^ 64 → cell_named (outputs (needed_columns look cs i) [] e) (needed_name (place_of c cs i)) ≡ cell c
+    → i + length cs ≤ 2 ^ 64 → cell_named (outputs (needed_columns look cs i) [] e) (needed_name (place_of c cs i)) ≡ cell c
 column_found look e cell [] l i c h bound = cc
 column_found look e cell (d ∷ ds) l i c h bound =
     let go : (b : Bool) → (c == d) ≡ b → (b || is_used c ds) ≡ true → cell_named (outputs (needed_columns look (d ∷ ds) i) [] e) (needed_name (cond b i (place_of c ds (i + 1)))) ≡ cell c =
@@ -151,7 +151,7 @@ column_found look e cell (d ∷ ds) l i c h bound =
     go (c == d) refl h
 
 needed_found : (look : Look) (e : Scope) (cell : ℕ → CellTree) (cs : List ℕ) → Looks look cs e cell → (c : ℕ) → is_used c cs ≡ true
-  → length cs ≤ 2 ^ 64 → cell_named (outputs (needed_outputs look cs) [] e) (needed_name (place_of c cs 0)) ≡ cell c
+    → length cs ≤ 2 ^ 64 → cell_named (outputs (needed_outputs look cs) [] e) (needed_name (place_of c cs 0)) ≡ cell c
 needed_found look e cell [] l c h bound = cc
 needed_found look e cell (d ∷ ds) l c h bound = column_found look e cell (d ∷ ds) l 0 c h (omega arith)
 
@@ -188,12 +188,12 @@ neither false b e = (refl, e)
 
 module _ (s : Schema) (g : Grants) (d : List (List Row)) (u : ℕ) (columns : List Column) (n : ℕ) (cs : List ℕ) (group : List Scope) (scope : Scope) (rs : List Row) where
   plain_column : (sql : ExprTree → AggTree) (fun : List CellTree → CellTree) (a : AggCol) → is_taken a ≡ false
-    → json_of (value (taken_value sql columns n cs a) group scope) ≡ given_value fun a (seen_by s g d) u rs
+      → json_of (value (taken_value sql columns n cs a) group scope) ≡ given_value fun a (seen_by s g d) u rs
   plain_column sql fun (of.Column c) h = absurd cc
   plain_column sql fun (of.Typename name) h = refl
 
   plain_columns : (sql : ExprTree → AggTree) (fun : List CellTree → CellTree) (ks : List KeyedAggCol) → some_taken ks ≡ false
-    → members (pairs_of (taken_pairs sql columns n cs ks)) group scope ≡ taken_members fun ks (seen_by s g d) u rs
+      → members (pairs_of (taken_pairs sql columns n cs ks)) group scope ≡ taken_members fun ks (seen_by s g d) u rs
   plain_columns sql fun [] h = refl
   plain_columns sql fun (k ∷ ks) h =
       let parts = neither (is_taken k.field) (some_taken ks) h in
@@ -215,7 +215,7 @@ module _ (s : Schema) (g : Grants) (d : List (List Row)) (u : ℕ) (columns : Li
 -- ---- the select over the selected rows
 
 module _ (s : Schema) (tables : List Table) (d : List (List Row)) (sound : Sound s tables d) (g : Grants) (u n : ℕ) (a : ListArguments)
-  (fs : List KeyedAggField) (bound : n + (list_numbers s (rights_of g) u (summary_used s u a fs) a + 0) ≤ 2 ^ 64) (scope : Scope) where
+    (fs : List KeyedAggField) (bound : n + (list_numbers s (rights_of g) u (summary_used s u a fs) a + 0) ≤ 2 ^ 64) (scope : Scope) where
   abbrev w : World
   w = record { tables = tables; database = d }
 
@@ -224,12 +224,12 @@ module _ (s : Schema) (tables : List Table) (d : List (List Row)) (sound : Sound
 
   pub folded_means : (tie : PredTree) (tied : Row → Bool) → length (needed fs []) ≤ 2 ^ 64
       →
-        ((far : Row) → Narrow s u far
-           → is_true
-               (truth_at tie w
-                  (X s tables d sound g u n a (needed fs []) [] 0 none_joined
-                     (extends_none s w u n (children_from s (rights_of g) u (summary_used s u a fs) a n)) bound scope far))
-             ≡ tied far)
+      ((far : Row) → Narrow s u far
+      → is_true
+      (truth_at tie w
+      (X s tables d sound g u n a (needed fs []) [] 0 none_joined
+      (extends_none s w u n (children_from s (rights_of g) u (summary_used s u a fs) a n)) bound scope far))
+      ≡ tied far)
       → rows_of (folded_select fs s (rights_of g) u a n tie) w scope
       ≡ ((value_name, json (obj (summary_members fs (seen_by s g d) u (limited a.limit (offset_by a.offset (ordered s (seen_by s g d) u a (filter tied (permitted s g d u)))))))) ∷ []) ∷ []
   folded_means tie tied few means =
@@ -246,8 +246,8 @@ module _ (s : Schema) (tables : List Table) (d : List (List Row)) (sound : Sound
       λ c h. map_map (λ e. cell_named (e (fold_alias n)) (needed_name (place_of c cs 0))) G S
       ∙ map_on (Narrow s u) (λ r. cell_named (G r (fold_alias n)) (needed_name (place_of c cs 0))) (λ r. shown s g d u r c)
       (λ r f. rw (with_alias_same scope (fold_alias n) (out r))
-           (needed_found see (alone r) (shown s g d u r) cs (x_more s tables d sound g u n a cs [] 0 none_joined x bound scope r f) c h few))
-        S narrow in
+      (needed_found see (alone r) (shown s g d u r) cs (x_more s tables d sound g u n a cs [] 0 none_joined x bound scope r f) c h few))
+      S narrow in
       ap (λ l. ((value_name, json (obj (members (pairs_of (summary_pairs (table s u).columns n cs fs)) l scope))) ∷ []) ∷ [])
       (ap (map (with_alias scope (fold_alias n))) (rows_are s tables d sound g u n a cs [] 0 none_joined x bound scope tie tied means a.limit outs) ∙ map_map (with_alias scope (fold_alias n)) out S)
       ∙ ap (λ m. ((value_name, json (obj m)) ∷ []) ∷ []) (summary_pairs_mean s g d u (table s u).columns n cs (map G S) scope S (length-map S G) found fs (covers fs [] cs (λ c h. h)))

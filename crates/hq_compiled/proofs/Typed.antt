@@ -53,8 +53,8 @@ module _ (s : Schema) (g : Rights) (tables : List Table) (ok : FineTables s g ta
   known_of (along r) t f = f.0
 
   origin_typed : (o : Origin) (scope : Aliases) (t p n : ℕ) (cs : List ℕ) → FineOrigin o s t
-    → KnowsAll s scope t (own_look (table s t).columns p) → p < n → (final : Aliases)
-    → Behind s g tables ok scope (origin_table o s t) n cs final
+      → KnowsAll s scope t (own_look (table s t).columns p) → p < n → (final : Aliases)
+      → Behind s g tables ok scope (origin_table o s t) n cs final
       → is_typed_pred (origin_tie o s t p n) tables final ≡ true
   origin_typed (from_table u) scope t p n cs f k lt final behind = refl
   origin_typed (along r) scope t p n cs f k lt final behind = tie_typed s g tables ok scope t r p n cs f k lt final behind
@@ -63,7 +63,7 @@ module _ (s : Schema) (g : Rights) (tables : List Table) (ok : FineTables s g ta
   apart_of fs look t n d = ap (all_differ bytes_eq) (names_of fs s g look t n) ∙ d
 
   key_typed : (u : ℕ) (look : Look) (final : Aliases) (cs : List ℕ) (vs : List Val) → Each (Has s u) cs → FineKey s u cs vs
-    → Knows s final u look cs → Preds tables final (key_members (table s u).columns look cs vs)
+      → Knows s final u look cs → Preds tables final (key_members (table s u).columns look cs vs)
   key_typed u look final [] vs h f k = tt
   key_typed u look final (c ∷ cs) [] h f k = tt
   key_typed u look final (c ∷ cs) (v ∷ vs) h f k =
@@ -78,8 +78,8 @@ module _ (s : Schema) (g : Rights) (tables : List Table) (ok : FineTables s g ta
       → Joined tables scope n top (record { select = select; alias = join_alias n } ∷ []) (λ final. is_value final (cell_at (value_place n)) ≡ true)
   json_join scope n top select first lt bound =
       joined_as tables scope n top top (record { select = select; alias = join_alias n } ∷ [])
-        (λ final. kind_at final (join_alias n) value_name ≡ Some well.json) (λ final. is_value final (cell_at (value_place n)) ≡ true)
-        (omega arith)
+      (λ final. kind_at final (join_alias n) value_name ≡ Some well.json) (λ final. is_value final (cell_at (value_place n)) ≡ true)
+      (omega arith)
       (λ final h. value_of final (join_alias n) value_name well.json h) (joined_one tables scope n top select (Some well.json) lt (omega (arith, lt, bound)) first.is first.shows)
 
   empty_typed : (scope : Aliases) (n : ℕ) → First tables scope (empty_select n) (Some well.json)
@@ -90,17 +90,17 @@ module _ (s : Schema) (g : Rights) (tables : List Table) (ok : FineTables s g ta
   list_at o a fs t p n =
       list_select s g (origin_table o s t) (list_used s (origin_table o s t) a (fields_used fs)) a n (origin_tie o s t p n)
       (fields_values fs s g (shown_look s g (origin_table o s t) (list_used s (origin_table o s t) a (fields_used fs)) n)
-         (origin_table o s t) (children_from s g (origin_table o s t) (list_used s (origin_table o s t) a (fields_used fs)) a n))
+      (origin_table o s t) (children_from s g (origin_table o s t) (list_used s (origin_table o s t) a (fields_used fs)) a n))
       (fields_joins fs s g (origin_table o s t) n (children_from s g (origin_table o s t) (list_used s (origin_table o s t) a (fields_used fs)) a n))
 
   list_of : (o : Origin) (a : ListArguments) (fs : FieldTrees) (scope : Aliases) (t p n : ℕ) → FineOrigin o s t
-    → FineArguments s (origin_table o s t) a → Apart fs → KnowsAll s scope t (own_look (table s t).columns p) → p < n
+      → FineArguments s (origin_table o s t) a → Apart fs → KnowsAll s scope t (own_look (table s t).columns p) → p < n
       → n + (list_numbers s g (origin_table o s t) (list_used s (origin_table o s t) a (fields_used fs)) a + fields_numbers fs s g (origin_table o s t)) ≤ 2 ^ 64
       → ((here : Aliases) (m : ℕ) (inner : Look) → KnowsAll s here (origin_table o s t) (own_look (table s (origin_table o s t)).columns n)
-        → n < m → Knows s here (origin_table o s t) inner (fields_used fs) → LooksUnder m inner
+      → n < m → Knows s here (origin_table o s t) inner (fields_used fs) → LooksUnder m inner
       → m + fields_numbers fs s g (origin_table o s t) ≤ 2 ^ 64
-        → Joined tables here m (m + fields_numbers fs s g (origin_table o s t)) (fields_joins fs s g (origin_table o s t) n m)
-          (λ final. are_values final (pairs_of (fields_values fs s g inner (origin_table o s t) m)) ≡ true))
+      → Joined tables here m (m + fields_numbers fs s g (origin_table o s t)) (fields_joins fs s g (origin_table o s t) n m)
+      (λ final. are_values final (pairs_of (fields_values fs s g inner (origin_table o s t) m)) ≡ true))
       → First tables scope (list_at o a fs t p n) (Some well.json)
   list_of o a fs scope t p n fo fa d own lt bound children =
       let u : ℕ = origin_table o s t in
@@ -111,16 +111,16 @@ module _ (s : Schema) (g : Rights) (tables : List Table) (ok : FineTables s g ta
       let m : ℕ = kid + fields_numbers fs s g u in
       let sorts : List ℕ = used_sorts (list_sorts s u a) in
       let kids : (here : Aliases) → Behind s g tables ok scope u n cs here
-        → Joined tables here kid m (fields_joins fs s g u n kid)
-          (λ final. are_values final (pairs_of (fields_values fs s g look u kid)) ≡ true) =
+      → Joined tables here kid m (fields_joins fs s g u n kid)
+      (λ final. are_values final (pairs_of (fields_values fs s g look u kid)) ≡ true) =
       λ here behind.
       let shown : Knows s here u look more =
-          knows_right s here u look a.distinct more
-            (knows_right s here u look sorts (a.distinct ++ more)
-               (knows_right s here u look (columns_in a.wanted) (sorts ++ (a.distinct ++ more)) behind.shown)) in
+      knows_right s here u look a.distinct more
+      (knows_right s here u look sorts (a.distinct ++ more)
+      (knows_right s here u look (columns_in a.wanted) (sorts ++ (a.distinct ++ more)) behind.shown)) in
       children here kid look behind.own (omega arith) shown (looks_under_later (n + 1 + extra s g u cs) kid look (omega arith) (shown_under s g tables ok u n cs (omega arith))) (omega arith) in
       list_typed s g tables ok scope u n m more a (origin_tie o s t p n) (fields_values fs s g look u kid) (fields_joins fs s g u n kid)
-        (known_of o t fo) fa (omega arith) (omega arith) (apart_of fs look u kid d)
+      (known_of o t fo) fa (omega arith) (omega arith) (apart_of fs look u kid d)
       (origin_typed o scope t p n cs fo own lt) kids
 
   some_numbers : (fs : List KeyedAggField) (u : ℕ) (a : ListArguments) (n : ℕ) → n < n + summary_numbers fs s g u a
@@ -130,12 +130,12 @@ module _ (s : Schema) (g : Rights) (tables : List Table) (ok : FineTables s g ta
 
   mutual
     fields_typed : (fs : FieldTrees) (scope : Aliases) (t p n : ℕ) (look : Look) → FineFields fs s t
-      → KnowsAll s scope t (own_look (table s t).columns p) → p < n → Knows s scope t look (fields_used fs) → LooksUnder n look
-      → n + fields_numbers fs s g t ≤ 2 ^ 64
+        → KnowsAll s scope t (own_look (table s t).columns p) → p < n → Knows s scope t look (fields_used fs) → LooksUnder n look
+        → n + fields_numbers fs s g t ≤ 2 ^ 64
         → Joined tables scope n (n + fields_numbers fs s g t) (fields_joins fs s g t p n) (λ final. are_values final (pairs_of (fields_values fs s g look t n)) ≡ true)
     fields_typed no_field scope t p n look f own lt k u bound =
         joined_none tables scope n (n + 0) (λ final. are_values final (pairs_of (fields_values no_field s g look t n)) ≡ true)
-          (λ final grown. refl)
+        (λ final grown. refl)
     fields_typed (field key x fs) scope t p n look f own lt k u bound =
         let mid : ℕ = n + field_numbers x s g t in
         let top : ℕ = n + fields_numbers (field key x fs) s g t in
@@ -149,17 +149,17 @@ module _ (s : Schema) (g : Rights) (tables : List Table) (ok : FineTables s g ta
         let wide = joined_as tables one.after mid (mid + fields_numbers fs s g t) top (fields_joins fs s g t p mid) W W (omega arith) (λ final h. h) rest in
         let both = joined_then tables scope n mid top (field_joins x s g t p n) (fields_joins fs s g t p mid) V W (omega arith) (omega arith) one wide in
         joined_as tables scope n top top (fields_joins (field key x fs) s g t p n) (λ final. V final × W final)
-          (λ final. are_values final (pairs_of (fields_values (field key x fs) s g look t n)) ≡ true) (omega arith)
+        (λ final. are_values final (pairs_of (fields_values (field key x fs) s g look t n)) ≡ true) (omega arith)
         (λ final h. two (is_value final (field_value x look n)) (are_values final (pairs_of (fields_values fs s g look t mid))) h.0 h.1) both
 
     field_typed : (x : FieldTree) (scope : Aliases) (t p n : ℕ) (look : Look) → FineField x s t
-      → KnowsAll s scope t (own_look (table s t).columns p) → p < n → Knows s scope t look (field_used x) → LooksUnder n look
-      → n + field_numbers x s g t ≤ 2 ^ 64
+        → KnowsAll s scope t (own_look (table s t).columns p) → p < n → Knows s scope t look (field_used x) → LooksUnder n look
+        → n + field_numbers x s g t ≤ 2 ^ 64
         → Joined tables scope n (n + field_numbers x s g t) (field_joins x s g t p n) (λ final. is_value final (field_value x look n) ≡ true)
     field_typed (column c) scope t p n look f own lt k u bound =
         joined_none tables scope n (n + 0) (λ final. is_value final (cell_at (look c)) ≡ true)
         (λ final grown. value_of final (look c).alias (look c).name (kind_of s t c)
-           (grown (look c).alias (look c).name (under_later n (n + 0) (look c).alias (omega arith) (u c)) ∙ k c f (used_one c)))
+        (grown (look c).alias (look c).name (under_later n (n + 0) (look c).alias (omega arith) (u c)) ∙ k c f (used_one c)))
     field_typed (typename name) scope t p n look f own lt k u bound = joined_none tables scope n (n + 0) (λ final. is_value final (tree.text name) ≡ true) (λ final grown. refl)
     field_typed no_queries scope t p n look f own lt k u bound = json_join scope n (n + 1) (empty_select n) (empty_typed scope n) (omega arith) bound
     field_typed (object r fs) scope t p n look f own lt k u bound =
@@ -171,27 +171,27 @@ module _ (s : Schema) (g : Rights) (tables : List Table) (ok : FineTables s g ta
         let e : ExprTree = tree.object (pairs_of (fields_values fs s g inner far next)) in
         let J : List JoinTree = fields_joins fs s g far n next in
         let kids : (here : Aliases) → Behind s g tables ok scope far n cs here
-          → Joined tables here next (next + fields_numbers fs s g far) J
-            (λ final. (is_value final e ≡ true) × (kind final e ≡ Some well.json)) =
+        → Joined tables here next (next + fields_numbers fs s g far) J
+        (λ final. (is_value final e ≡ true) × (kind final e ≡ Some well.json)) =
         λ here behind.
         joined_as tables here next (next + fields_numbers fs s g far) (next + fields_numbers fs s g far) J
-          (λ final. are_values final (pairs_of (fields_values fs s g inner far next)) ≡ true)
-          (λ final. (is_value final e ≡ true) × (kind final e ≡ Some well.json)) (omega arith)
+        (λ final. are_values final (pairs_of (fields_values fs s g inner far next)) ≡ true)
+        (λ final. (is_value final e ≡ true) × (kind final e ≡ Some well.json)) (omega arith)
         (λ final h. (object_typed s g tables ok final (fields_values fs s g inner far next) (apart_of fs inner far next f.1) h, refl))
         (fields_typed fs here far n next inner f.2 behind.own (omega arith) behind.shown
-             (looks_under_later (n + 1 + extra s g far cs) next inner (omega arith) (shown_under s g tables ok far n cs (omega arith)))
-             (omega arith))
-          in
+        (looks_under_later (n + 1 + extra s g far cs) next inner (omega arith) (shown_under s g tables ok far n cs (omega arith)))
+        (omega arith))
+        in
         let first =
-            first_typed s g tables ok scope far n (next + fields_numbers fs s g far) cs (link s t (rel s t r) p n) e (Some well.json) J
-              f.0.0 (omega arith) (omega arith) (tie_typed s g tables ok scope t r p n cs f.0 own lt) kids in
+        first_typed s g tables ok scope far n (next + fields_numbers fs s g far) cs (link s t (rel s t r) p n) e (Some well.json) J
+        f.0.0 (omega arith) (omega arith) (tie_typed s g tables ok scope t r p n cs f.0 own lt) kids in
         json_join scope n top (first_select s far n (link s t (rel s t r) p n) (filter_predicate s g far n (filter_from s g far cs n)) e (masks s g far cs n ++ J)) first (omega arith) bound
     field_typed (list o a fs) scope t p n look f own lt k u bound =
         json_join scope n (n + field_numbers (list o a fs) s g t) (list_at o a fs t p n)
         (list_of o a fs scope t p n f.0 f.1 f.2 own lt bound
-             (λ here m inner own_here later shown under small. fields_typed fs here (origin_table o s t) n m inner f.3 own_here later shown
-                under small))
-          (omega arith) bound
+        (λ here m inner own_here later shown under small. fields_typed fs here (origin_table o s t) n m inner f.3 own_here later shown
+        under small))
+        (omega arith) bound
     field_typed (by_key v key fs) scope t p n look f own lt k u bound =
         let cs : List ℕ = key_used s v fs in
         let inner : Look = shown_look s g v cs n in
@@ -201,12 +201,12 @@ module _ (s : Schema) (g : Rights) (tables : List Table) (ok : FineTables s g ta
         let J : List JoinTree = fields_joins fs s g v n next in
         let members : List PredTree = key_members (table s v).columns inner (table s v).key key in
         let kids : (here : Aliases) → Behind s g tables ok scope v n cs here
-          → Joined tables here next (next + fields_numbers fs s g v) J
-            (λ final. (is_value final e ≡ true) × (kind final e ≡ Some well.json)) =
+        → Joined tables here next (next + fields_numbers fs s g v) J
+        (λ final. (is_value final e ≡ true) × (kind final e ≡ Some well.json)) =
         λ here behind.
         joined_as tables here next (next + fields_numbers fs s g v) (next + fields_numbers fs s g v) J
-          (λ final. are_values final (pairs_of (fields_values fs s g inner v next)) ≡ true)
-          (λ final. (is_value final e ≡ true) × (kind final e ≡ Some well.json)) (omega arith)
+        (λ final. are_values final (pairs_of (fields_values fs s g inner v next)) ≡ true)
+        (λ final. (is_value final e ≡ true) × (kind final e ≡ Some well.json)) (omega arith)
         (λ final h. (object_typed s g tables ok final (fields_values fs s g inner v next) (apart_of fs inner v next f.2) h, refl))
         (fields_typed fs here v n next inner f.3 behind.own (omega arith) (knows_right s here v inner (table s v).key (fields_used fs) behind.shown)
         (looks_under_later (n + 1 + extra s g v cs) next inner (omega arith) (shown_under s g tables ok v n cs (omega arith))) (omega arith)) in
@@ -220,8 +220,8 @@ module _ (s : Schema) (g : Rights) (tables : List Table) (ok : FineTables s g ta
         let within : Aliases = with_one n scope in
         let own_at : Look = own_look (table s t).columns p in
         let beside =
-            all_behind s scope within t n own_at (grows_table n ((codes "u", Some well.truth) ∷ []) scope (omega arith))
-              (looks_under_later (p + 1) n own_at (omega arith) (own_under (table s t).columns p)) own in
+        all_behind s scope within t n own_at (grows_table n ((codes "u", Some well.truth) ∷ []) scope (omega arith))
+        (looks_under_later (p + 1) n own_at (omega arith) (own_under (table s t).columns p)) own in
         let J : List JoinTree = parts_joins ps s g o t p a (n + 1) in
         let ends : ℕ = n + 1 + parts_numbers ps s g v a in
         let V : Aliases → Type 0 = λ final. are_values final (pairs_of (parts_values ps s g v a (n + 1))) ≡ true in
@@ -237,14 +237,14 @@ module _ (s : Schema) (g : Rights) (tables : List Table) (ok : FineTables s g ta
     field_typed (introspect x) scope t p n look f own lt k u bound = json_join scope n (n + 1) (empty_select n) (empty_typed scope n) (omega arith) bound
 
     parts_typed : (ps : PartTrees) (o : Origin) (scope : Aliases) (t p : ℕ) (a : ListArguments) (n : ℕ) → FineOrigin o s t
-      → FineArguments s (origin_table o s t) a → FineParts ps s (origin_table o s t) → KnowsAll s scope t (own_look (table s t).columns p)
-      → p < n
+        → FineArguments s (origin_table o s t) a → FineParts ps s (origin_table o s t) → KnowsAll s scope t (own_look (table s t).columns p)
+        → p < n
         → n + parts_numbers ps s g (origin_table o s t) a ≤ 2 ^ 64
-          → Joined tables scope n (n + parts_numbers ps s g (origin_table o s t) a) (parts_joins ps s g o t p a n)
-            (λ final. are_values final (pairs_of (parts_values ps s g (origin_table o s t) a n)) ≡ true)
+        → Joined tables scope n (n + parts_numbers ps s g (origin_table o s t) a) (parts_joins ps s g o t p a n)
+        (λ final. are_values final (pairs_of (parts_values ps s g (origin_table o s t) a n)) ≡ true)
     parts_typed no_part o scope t p a n fo fa f own lt bound =
         joined_none tables scope n (n + 0) (λ final. are_values final (pairs_of (parts_values no_part s g (origin_table o s t) a n)) ≡ true)
-          (λ final grown. refl)
+        (λ final grown. refl)
     parts_typed (part key x ps) o scope t p a n fo fa f own lt bound =
         let v : ℕ = origin_table o s t in
         let mid : ℕ = n + part_numbers x s g v a in
@@ -258,15 +258,15 @@ module _ (s : Schema) (g : Rights) (tables : List Table) (ok : FineTables s g ta
         let wide = joined_as tables one.after mid (mid + parts_numbers ps s g v a) top (parts_joins ps s g o t p a mid) W W (omega arith) (λ final h. h) rest in
         let both = joined_then tables scope n mid top (part_joins x s g o t p a n) (parts_joins ps s g o t p a mid) V W (omega arith) (omega arith) one wide in
         joined_as tables scope n top top (parts_joins (part key x ps) s g o t p a n) (λ final. V final × W final)
-          (λ final. are_values final (pairs_of (parts_values (part key x ps) s g v a n)) ≡ true) (omega arith)
+        (λ final. are_values final (pairs_of (parts_values (part key x ps) s g v a n)) ≡ true) (omega arith)
         (λ final h. two (is_value final (part_value x n)) (are_values final (pairs_of (parts_values ps s g v a mid))) h.0 h.1) both
 
     part_typed : (x : PartTree) (o : Origin) (scope : Aliases) (t p : ℕ) (a : ListArguments) (n : ℕ) → FineOrigin o s t
-      → FineArguments s (origin_table o s t) a → FinePart x s (origin_table o s t) → KnowsAll s scope t (own_look (table s t).columns p)
-      → p < n
+        → FineArguments s (origin_table o s t) a → FinePart x s (origin_table o s t) → KnowsAll s scope t (own_look (table s t).columns p)
+        → p < n
         → n + part_numbers x s g (origin_table o s t) a ≤ 2 ^ 64
-          → Joined tables scope n (n + part_numbers x s g (origin_table o s t) a) (part_joins x s g o t p a n)
-            (λ final. is_value final (part_value x n) ≡ true)
+        → Joined tables scope n (n + part_numbers x s g (origin_table o s t) a) (part_joins x s g o t p a n)
+        (λ final. is_value final (part_value x n) ≡ true)
     part_typed (summary fs) o scope t p a n fo fa f own lt bound =
         let v : ℕ = origin_table o s t in
         let first = summary_typed s g tables ok scope v n fs a (origin_tie o s t p n) (known_of o t fo) fa f bound (origin_typed o scope t p n (summary_used s v a fs) fo own lt) in
@@ -274,9 +274,9 @@ module _ (s : Schema) (g : Rights) (tables : List Table) (ok : FineTables s g ta
     part_typed (nodes fs) o scope t p a n fo fa f own lt bound =
         json_join scope n (n + part_numbers (nodes fs) s g (origin_table o s t) a) (list_at o a fs t p n)
         (list_of o a fs scope t p n fo fa f.0 own lt bound
-             (λ here m inner own_here later shown under small. fields_typed fs here (origin_table o s t) n m inner f.1 own_here later shown
-                under small))
-          (omega arith) bound
+        (λ here m inner own_here later shown under small. fields_typed fs here (origin_table o s t) n m inner f.1 own_here later shown
+        under small))
+        (omega arith) bound
     part_typed (part_typename name) o scope t p a n fo fa f own lt bound = joined_none tables scope n (n + 0) (λ final. is_value final (tree.text name) ≡ true) (λ final grown. refl)
 
 -- at the root no column is known

@@ -71,7 +71,7 @@ pub one_typed : (tables : List Table) (scope : Aliases) (a : PredTree) → is_ty
 one_typed tables scope a e = where_typed tables scope (with_member a []) (member_typed tables scope a [] e tt)
 
 pub two_typed : (tables : List Table) (scope : Aliases) (a b : PredTree) → is_typed_pred a tables scope ≡ true
-  → is_typed_pred b tables scope ≡ true → is_typed_filter (where_of (with_member a (with_member b []))) tables scope ≡ true
+    → is_typed_pred b tables scope ≡ true → is_typed_filter (where_of (with_member a (with_member b []))) tables scope ≡ true
 two_typed tables scope a b e f = where_typed tables scope (with_member a (with_member b [])) (member_typed tables scope a (with_member b []) e (member_typed tables scope b [] f tt))
 
 pub three_typed : (tables : List Table) (scope : Aliases) (a b c : PredTree) → is_typed_pred a tables scope ≡ true → is_typed_pred b tables scope ≡ true → is_typed_pred c tables scope ≡ true
@@ -96,14 +96,14 @@ operands_item : (scope : Aliases) (e : ExprTree) (k : Kind) (os : List Operand) 
 operands_item scope e k [] h f = refl
 operands_item scope e k (o ∷ os) h f =
     two (is_item scope e (operand_literal o)) (list_all (is_item scope e) (map operand_literal os)) (operand_item scope e k o h f.0)
-      (operands_item scope e k os h f.1)
+    (operands_item scope e k os h f.1)
 
 negation_typed : (tables : List Table) (scope : Aliases) (b : Bool) (p : PredTree) → is_typed_pred p tables scope ≡ true → is_typed_pred (negation_if b p) tables scope ≡ true
 negation_typed tables scope true p e = e
 negation_typed tables scope false p e = e
 
 within_typed : (tables : List Table) (scope : Aliases) (e : ExprTree) (k : Kind) (os : List Operand) (b : Bool) → is_compared scope e ≡ true
-  → kind scope e ≡ Some k → Each (OperandFits k) os → is_typed_pred (within_list e os b) tables scope ≡ true
+    → kind scope e ≡ Some k → Each (OperandFits k) os → is_typed_pred (within_list e os b) tables scope ≡ true
 within_typed tables scope e k [] true c h f = refl
 within_typed tables scope e k [] false c h f = refl
 within_typed tables scope e k (o ∷ os) b c h f =
@@ -111,7 +111,7 @@ within_typed tables scope e k (o ∷ os) b c h f =
     (two (is_compared scope e) (list_all (is_item scope e) (map operand_literal (o ∷ os))) c (operands_item scope e k (o ∷ os) h f))
 
 like_typed : (tables : List Table) (scope : Aliases) (e : ExprTree) (o : Operand) (fold : Bool) → is_compared scope e ≡ true
-  → kind scope e ≡ Some well.text → PatternFits o → is_typed_pred (tree.like e (operand_literal o) fold) tables scope ≡ true
+    → kind scope e ≡ Some well.text → PatternFits o → is_typed_pred (tree.like e (operand_literal o) fold) tables scope ≡ true
 like_typed tables scope e (Const val.Null) fold c h f = absurd f
 like_typed tables scope e (Const (val.Int n)) fold c h f = absurd f
 like_typed tables scope e (Const (val.Text s)) fold c h f = rw (c, h, f) refl
@@ -131,14 +131,14 @@ four : (a b c d : Bool) → a ≡ true → b ≡ true → c ≡ true → d ≡ t
 four a b c d e f g h = rw (e, f, g, h) refl
 
 pub parts_hold : (scope : Aliases) (distinct : List ExprTree) (outs : List OutTree) (keys : List OrderTree)
-  → list_all (is_compared scope) distinct ≡ true → begin_with distinct [] keys ≡ true → list_all (λ o. is_value scope o.value) outs ≡ true
+    → list_all (is_compared scope) distinct ≡ true → begin_with distinct [] keys ≡ true → list_all (λ o. is_value scope o.value) outs ≡ true
     → all_differ bytes_eq (map (λ o. o.name) outs) ≡ true → list_all (λ k. is_compared scope k.value) keys ≡ true → are_parts scope distinct outs keys ≡ true
 parts_hold scope distinct outs keys d b values names compare =
     five (list_all (is_compared scope) distinct) (begin_with distinct [] keys) (list_all (λ o. is_value scope o.value) outs)
-      (all_differ bytes_eq (map (λ o. o.name) outs)) (list_all (λ k. is_compared scope k.value) keys) d b values names compare
+    (all_differ bytes_eq (map (λ o. o.name) outs)) (list_all (λ k. is_compared scope k.value) keys) d b values names compare
 
 pub plain_parts : (scope : Aliases) (outs : List OutTree) (keys : List OrderTree) → list_all (λ o. is_value scope o.value) outs ≡ true
-  → all_differ bytes_eq (map (λ o. o.name) outs) ≡ true → list_all (λ k. is_compared scope k.value) keys ≡ true
+    → all_differ bytes_eq (map (λ o. o.name) outs) ≡ true → list_all (λ k. is_compared scope k.value) keys ≡ true
     → are_parts scope [] outs keys ≡ true
 plain_parts scope outs keys values names compare = parts_hold scope [] outs keys refl (begin_none keys) values names compare
 
@@ -155,8 +155,8 @@ pub joined_none : (tables : List Table) (scope : Aliases) (n m : ℕ) (V : Alias
 joined_none tables scope n m V v = record { after = scope; typed = λ js h. h; joined = λ js. refl; grows = λ a name u. refl; seen = v }
 
 pub joined_then : (tables : List Table) (scope : Aliases) (n mid m : ℕ) (J K : List JoinTree) (V W : Aliases → Type 0) → n ≤ mid → mid ≤ m
-  → (first : Joined tables scope n mid J V) → Joined tables first.after mid m K W
-  → Joined tables scope n m (J ++ K) (λ final. V final × W final)
+    → (first : Joined tables scope n mid J V) → Joined tables first.after mid m K W
+    → Joined tables scope n m (J ++ K) (λ final. V final × W final)
 joined_then tables scope n mid m J K V W a b first second = record {
   after = second.after;
   typed = λ js h. rw (append_assoc J K js) (first.typed (K ++ js) (second.typed js h));
@@ -166,7 +166,7 @@ joined_then tables scope n mid m J K V W a b first second = record {
 }
 
 pub joined_one : (tables : List Table) (scope : Aliases) (n m : ℕ) (s : SelectTree) (k : Option Kind) → n < m → n < 2 ^ 64
-  → is_typed s tables scope ≡ true → kind_named (select_names s tables scope) value_name ≡ k
+    → is_typed s tables scope ≡ true → kind_named (select_names s tables scope) value_name ≡ k
     → Joined tables scope n m (record { select = s; alias = join_alias n } ∷ []) (λ final. kind_at final (join_alias n) value_name ≡ k)
 joined_one tables scope n m s k lt bound is kinds = record {
   after = (join_alias n, select_names s tables scope) ∷ scope;
@@ -179,7 +179,7 @@ joined_one tables scope n m s k lt bound is kinds = record {
 }
 
 pub joined_as : (tables : List Table) (scope : Aliases) (n m k : ℕ) (J : List JoinTree) (V W : Aliases → Type 0) → m ≤ k
-  → ((final : Aliases) → V final → W final) → Joined tables scope n m J V → Joined tables scope n k J W
+    → ((final : Aliases) → V final → W final) → Joined tables scope n m J V → Joined tables scope n k J W
 joined_as tables scope n m k J V W le f j = record {
   after = j.after;
   typed = j.typed;
@@ -203,7 +203,7 @@ module _ (s : Schema) (g : Rights) (tables : List Table) (ok : FineTables s g ta
   -- ---- columns at their places
 
   pub compared_typed : (scope : Aliases) (t : ℕ) (place : Place) (c : ℕ) → kind_at scope place.alias place.name ≡ Some (kind_of s t c)
-    → is_compared scope (compared_at (table s t).columns place c) ≡ true
+      → is_compared scope (compared_at (table s t).columns place c) ≡ true
   compared_typed scope t place c k = compared_of scope place.alias place.name (slice_index_or (table s t).columns c no_column).ty k
 
   links_typed : (scope : Aliases) (t u p q : ℕ) (xs : List Pair) → Each (FinePair s t u) xs → KnowsAll s scope t (own_look (table s t).columns p) → KnowsAll s scope u (own_look (table s u).columns q)
@@ -219,21 +219,21 @@ module _ (s : Schema) (g : Rights) (tables : List Table) (ok : FineTables s g ta
       )
 
   pub link_typed : (scope : Aliases) (t : ℕ) (r : Rel) (p q : ℕ) → Each (FinePair s t r.remote) r.pairs
-    → KnowsAll s scope t (own_look (table s t).columns p) → KnowsAll s scope r.remote (own_look (table s r.remote).columns q)
+      → KnowsAll s scope t (own_look (table s t).columns p) → KnowsAll s scope r.remote (own_look (table s r.remote).columns q)
       → is_typed_pred (link s t r p q) tables scope ≡ true
   link_typed scope t r p q f k l = and_typed tables scope (link_members (table s t).columns (table s r.remote).columns p q r.pairs) (links_typed scope t r.remote p q r.pairs f k l)
 
   -- rows of one table with their joins
   pub table_typed : (scope final : Aliases) (u n : ℕ) (distinct : List ExprTree) (outs : List OutTree) (js : JoinTrees) (f : FilterTree) (keys : List OrderTree) (limit offset : Option ℕ) → Known s u
       → are_typed_joins js tables (with_table s tables u n scope) ≡ true → joined_scope js tables (with_table s tables u n scope) ≡ final
-        → is_typed_filter f tables final ≡ true → are_parts final distinct outs keys ≡ true
+      → is_typed_filter f tables final ≡ true → are_parts final distinct outs keys ≡ true
       → is_typed (tree.rows distinct outs (tree.table (table s u).schema (table s u).name (table_alias n)) js f keys limit offset) tables scope ≡ true
   table_typed scope final u n distinct outs js f keys limit offset known joins joined condition parts = rw joined (four _ _ _ _ (ok u known).found joins condition parts)
 
   -- what a mode has beside a link
   pub record TypedMode (m : Mode) : Type 0 where
     pub guard : (u n from : ℕ) (scope : Aliases) → Known s u → KnowsAll s scope u (own_look (table s u).columns n) → n < from
-      → from + m.more u ≤ 2 ^ 64 → is_typed_pred (m.guard u n from) tables scope ≡ true
+        → from + m.more u ≤ 2 ^ 64 → is_typed_pred (m.guard u n from) tables scope ≡ true
     pub joins : (u n : ℕ) (cs : List ℕ) (scope : Aliases) → Known s u → KnowsAll s scope u (own_look (table s u).columns n) → n + 1 + m.extra u cs ≤ 2 ^ 64
         → Joined tables scope (n + 1) (n + 1 + m.extra u cs) (m.joins u cs n) (λ final. Knows s final u (m.look u cs n) cs)
     pub under : (u n : ℕ) (cs : List ℕ) → n + 1 + m.extra u cs ≤ 2 ^ 64 → LooksUnder (n + 1 + m.extra u cs) (m.look u cs n)
@@ -241,7 +241,7 @@ module _ (s : Schema) (g : Rights) (tables : List Table) (ok : FineTables s g ta
   module _ (m : Mode) (h : TypedMode m) where
     mutual
       pub predicate_typed : (b : BexpTree) (look : Look) (t p n : ℕ) (scope : Aliases) → FineBexp b s t
-        → KnowsAll s scope t (own_look (table s t).columns p) → p < n → Knows s scope t look (columns_in b) → LooksUnder n look
+          → KnowsAll s scope t (own_look (table s t).columns p) → p < n → Knows s scope t look (columns_in b) → LooksUnder n look
           → n + numbers b s m t ≤ 2 ^ 64 → is_typed_pred (predicate b s m look t p n) tables scope ≡ true
       predicate_typed always look t p n scope f own lt k u bound = refl
       predicate_typed (and_of bs) look t p n scope f own lt k u bound = and_typed tables scope (predicates bs s m look t p n) (predicates_typed bs look t p n scope f own lt k u bound)
@@ -269,14 +269,14 @@ module _ (s : Schema) (g : Rights) (tables : List Table) (ok : FineTables s g ta
           let near : KnowsAll s in_scope far (own_look (table s far).columns n) = knows_here s g tables far n scope (ok far f.0.0) in
           let beside : KnowsAll s in_scope t (own_look (table s t).columns p) =
           all_behind s scope in_scope t n (own_look (table s t).columns p) (grows_table n _ scope (omega arith))
-            (looks_under_later (p + 1) n (own_look (table s t).columns p) (omega arith) (own_under (table s t).columns p)) own in
+          (looks_under_later (p + 1) n (own_look (table s t).columns p) (omega arith) (own_under (table s t).columns p)) own in
           let j = h.joins far n cs in_scope f.0.0 near (omega arith) in
           let final : Aliases = j.after in
           let here : KnowsAll s final far (own_look (table s far).columns n) =
-              all_behind s in_scope final far (n + 1) (own_look (table s far).columns n) j.grows (own_under (table s far).columns n) near in
+          all_behind s in_scope final far (n + 1) (own_look (table s far).columns n) j.grows (own_under (table s far).columns n) near in
           let above : KnowsAll s final t (own_look (table s t).columns p) =
           all_behind s in_scope final t (n + 1) (own_look (table s t).columns p) j.grows
-            (looks_under_later (p + 1) (n + 1) (own_look (table s t).columns p) (omega arith) (own_under (table s t).columns p)) beside in
+          (looks_under_later (p + 1) (n + 1) (own_look (table s t).columns p) (omega arith) (own_under (table s t).columns p)) beside in
           let L : PredTree = link s t (rel s t r) p n in
           let A : PredTree = m.guard far n (guard_from m far cs n) in
           let B : PredTree = predicate b s m (m.look far cs n) far n (inner_from m far cs n) in
@@ -284,25 +284,25 @@ module _ (s : Schema) (g : Rights) (tables : List Table) (ok : FineTables s g ta
           let linked = link_typed final t (rel s t r) p n f.0.1 above here in
           let kept = h.guard far n (guard_from m far cs n) final f.0.0 here (omega arith) (omega arith) in
           let inner =
-              predicate_typed b (m.look far cs n) far n (inner_from m far cs n) final f.1 here (omega arith) shown
-                (looks_under_later (n + 1 + m.extra far cs) (inner_from m far cs n) (m.look far cs n) (omega arith)
-                   (h.under far n cs (omega arith)))
-                (omega arith) in
+          predicate_typed b (m.look far cs n) far n (inner_from m far cs n) final f.1 here (omega arith) shown
+          (looks_under_later (n + 1 + m.extra far cs) (inner_from m far cs n) (m.look far cs n) (omega arith)
+          (h.under far n cs (omega arith)))
+          (omega arith) in
           table_typed scope final far n [] (record { value = tree.bool true; name = unit_name } ∷ []) (joins_of (m.joins far cs n))
-            (where_of (with_member L (with_member A (with_member B [])))) [] None None f.0.0
+          (where_of (with_member L (with_member A (with_member B [])))) [] None None f.0.0
           (typed_last tables in_scope (n + 1) (n + 1 + m.extra far cs) (m.joins far cs n) _ j)
-            (joined_last tables in_scope (n + 1) (n + 1 + m.extra far cs) (m.joins far cs n) _ j)
-            (three_typed tables final L A B linked kept inner) refl
+          (joined_last tables in_scope (n + 1) (n + 1 + m.extra far cs) (m.joins far cs n) _ j)
+          (three_typed tables final L A B linked kept inner) refl
 
       pub predicates_typed : (bs : BexpTrees) (look : Look) (t p n : ℕ) (scope : Aliases) → FineBexps bs s t
-        → KnowsAll s scope t (own_look (table s t).columns p) → p < n → Knows s scope t look (columns_in_all bs) → LooksUnder n look
+          → KnowsAll s scope t (own_look (table s t).columns p) → p < n → Knows s scope t look (columns_in_all bs) → LooksUnder n look
           → n + numbers_all bs s m t ≤ 2 ^ 64 → Preds tables scope (predicates bs s m look t p n)
       predicates_typed no_bexp look t p n scope f own lt k u bound = tt
       predicates_typed (bexp b bs) look t p n scope f own lt k u bound =
           let next : ℕ = n + numbers b s m t in (
             predicate_typed b look t p n scope f.0 own lt (knows_left s scope t look (columns_in b) (columns_in_all bs) k) u (omega arith),
             predicates_typed bs look t p next scope f.1 own (omega arith) (knows_right s scope t look (columns_in b) (columns_in_all bs) k)
-              (looks_under_later n next look (omega arith) u) (omega arith),
+                (looks_under_later n next look (omega arith) u) (omega arith),
           )
 
   no_mode : TypedMode (filter_mode s)
@@ -315,7 +315,7 @@ module _ (s : Schema) (g : Rights) (tables : List Table) (ok : FineTables s g ta
 
   -- a filter or a mask
   pub own_typed : (b : BexpTree) (t p n : ℕ) (scope : Aliases) → FineBexp b s t → KnowsAll s scope t (own_look (table s t).columns p)
-    → p < n → n + own_numbers b s t ≤ 2 ^ 64 → is_typed_pred (own_predicate b s t p n) tables scope ≡ true
+      → p < n → n + own_numbers b s t ≤ 2 ^ 64 → is_typed_pred (own_predicate b s t p n) tables scope ≡ true
   own_typed b t p n scope f k lt bound =
       predicate_typed (filter_mode s) no_mode b (own_look (table s t).columns p) t p n scope f k lt (λ c has used. k c has)
       (looks_under_later (p + 1) n (own_look (table s t).columns p) (omega arith) (own_under (table s t).columns p)) bound

@@ -40,13 +40,13 @@ module _ (s : Schema) (g : Rights) (tables : List Table) (ok : FineTables s g ta
 
   -- the join of a mask
   mask_typed : (m : Mask) (t p n : ℕ) (scope : Aliases) → FineMask s t m → KnowsAll s scope t (own_look (table s t).columns p) → p < n
-    → n + 1 + own_numbers m.shown s t ≤ 2 ^ 64 → First tables scope (mask_select m s t p n) (Some (kind_of s t m.column))
+      → n + 1 + own_numbers m.shown s t ≤ 2 ^ 64 → First tables scope (mask_select m s t p n) (Some (kind_of s t m.column))
   mask_typed m t p n scope f k lt bound =
       let within : Aliases = (table_alias n, (codes "u", Some truth) ∷ []) ∷ scope in
       let own : Look = own_look (table s t).columns p in
       let here : KnowsAll s within t own =
-          all_behind s scope within t n own (grows_table n ((codes "u", Some truth) ∷ []) scope (omega arith))
-            (looks_under_later (p + 1) n own (omega arith) (own_under (table s t).columns p)) k in
+      all_behind s scope within t n own (grows_table n ((codes "u", Some truth) ∷ []) scope (omega arith))
+      (looks_under_later (p + 1) n own (omega arith) (own_under (table s t).columns p)) k in
       let shown : PredTree = own_predicate m.shown s t p (n + 1) in
       let kept = own_typed s g tables ok m.shown t p (n + 1) within f.1 here (omega arith) (omega arith) in
       let cell = here m.column f.0 in
@@ -61,7 +61,7 @@ module _ (s : Schema) (g : Rights) (tables : List Table) (ok : FineTables s g ta
   masks_typed [] t p n scope f k lt bound =
       joined_none tables scope n (n + 0) (λ final. KnowsAll s final t (own_look (table s t).columns p))
       (λ final grown. all_behind s scope final t (n + 0) (own_look (table s t).columns p) grown
-         (looks_under_later (p + 1) (n + 0) (own_look (table s t).columns p) (omega arith) (own_under (table s t).columns p)) k)
+      (looks_under_later (p + 1) (n + 0) (own_look (table s t).columns p) (omega arith) (own_under (table s t).columns p)) k)
   masks_typed (m ∷ ms) t p n scope f k lt bound =
       let mid : ℕ = n + (1 + own_numbers m.shown s t) in
       let top : ℕ = n + mask_numbers (m ∷ ms) s t in
@@ -77,8 +77,8 @@ module _ (s : Schema) (g : Rights) (tables : List Table) (ok : FineTables s g ta
       joined_as tables scope n top top (mask_joins (m ∷ ms) s t p n) (λ final. V final × W final) (λ final. KnowsAll s final t (mask_look (m ∷ ms) s t p n)) (omega arith)
       (λ final h c has.
       let go : (b : Bool) → (m.column == c) ≡ b
-        → kind_at final (cond b (value_place n) (mask_look ms s t p mid c)).alias (cond b (value_place n) (mask_look ms s t p mid c)).name
-          ≡ Some (kind_of s t c) =
+      → kind_at final (cond b (value_place n) (mask_look ms s t p mid c)).alias (cond b (value_place n) (mask_look ms s t p mid c)).name
+      ≡ Some (kind_of s t c) =
       elim [
         | true ↦ λ e. h.0 ∙ ap (λ d. Some (kind_of s t d)) (eqb-true m.column c e)
         | false ↦ λ e. h.1 c has
@@ -101,28 +101,28 @@ module _ (s : Schema) (g : Rights) (tables : List Table) (ok : FineTables s g ta
   shown_typed u n cs scope known k bound =
       let ms : List Mask = used_masks g u cs in
       joined_as tables scope (n + 1) (n + 1 + extra s g u cs) (n + 1 + extra s g u cs) (masks s g u cs n)
-        (λ final. KnowsAll s final u (mask_look ms s u n (n + 1))) (λ final. Knows s final u (shown_look s g u cs n) cs) (omega arith)
+      (λ final. KnowsAll s final u (mask_look ms s u n (n + 1))) (λ final. Knows s final u (shown_look s g u cs n) cs) (omega arith)
       (λ final h c has used. h c has) (masks_typed ms u n (n + 1) scope (each_used (FineMask s u) (λ m. is_used m.column cs) (g.masks u) (ok u known).masks) k (omega arith) bound)
 
   pub shown_under : (u n : ℕ) (cs : List ℕ) → n + 1 + extra s g u cs ≤ 2 ^ 64 → LooksUnder (n + 1 + extra s g u cs) (shown_look s g u cs n)
   shown_under u n cs bound = masked_under (used_masks g u cs) u n (n + 1) (omega arith) bound
 
   pub filter_typed : (u n from : ℕ) (scope : Aliases) → Known s u → KnowsAll s scope u (own_look (table s u).columns n) → n < from
-    → from + filter_numbers s g u ≤ 2 ^ 64 → is_typed_pred (filter_predicate s g u n from) tables scope ≡ true
+      → from + filter_numbers s g u ≤ 2 ^ 64 → is_typed_pred (filter_predicate s g u n from) tables scope ≡ true
   filter_typed u n from scope known k lt bound = own_typed s g tables ok (g.filter u) u n from scope (ok u known).filter k lt bound
 
   where_typed_mode : TypedMode s g tables ok (where_mode s g)
   where_typed_mode = record { guard = filter_typed; joins = shown_typed; under = shown_under }
 
   pub wanted_typed : (b : BexpTree) (look : Look) (t p n : ℕ) (scope : Aliases) → FineBexp b s t
-    → KnowsAll s scope t (own_look (table s t).columns p) → p < n → Knows s scope t look (columns_in b) → LooksUnder n look
+      → KnowsAll s scope t (own_look (table s t).columns p) → p < n → Knows s scope t look (columns_in b) → LooksUnder n look
       → n + where_numbers b s g t ≤ 2 ^ 64 → is_typed_pred (predicate b s (where_mode s g) look t p n) tables scope ≡ true
   wanted_typed b look t p n scope f k lt l u bound = predicate_typed s g tables ok (where_mode s g) where_typed_mode b look t p n scope f k lt l u bound
 
   -- ---- a first row
 
   keys_typed : (u n : ℕ) (scope : Aliases) (cs : List ℕ) → Each (Has s u) cs → KnowsAll s scope u (own_look (table s u).columns n)
-    → list_all (λ k. is_compared scope k.value) (key_orders (table s u).columns n cs) ≡ true
+      → list_all (λ k. is_compared scope k.value) (key_orders (table s u).columns n cs) ≡ true
   keys_typed u n scope [] h k = refl
   keys_typed u n scope (c ∷ cs) h k =
       two (is_compared scope (compared_at (table s u).columns (own_look (table s u).columns n c) c)) (list_all (λ k. is_compared scope k.value) (key_orders (table s u).columns n cs))
@@ -145,7 +145,7 @@ module _ (s : Schema) (g : Rights) (tables : List Table) (ok : FineTables s g ta
       let near : KnowsAll s within u own = knows_here s g tables u n scope (ok u known) in
       let first = shown_typed u n cs within known near (omega arith) in
       let around : (final : Aliases) → Grows (n + 1) within final → Grows n scope final =
-          λ final grown a name v. grown a name (under_later n (n + 1) a (omega arith) v) ∙ grows_table n _ scope (omega arith) a name v in
+      λ final grown a name v. grown a name (under_later n (n + 1) a (omega arith) v) ∙ grows_table n _ scope (omega arith) a name v in
       let behind : Behind scope u n cs first.after = record {
         own = all_behind s within first.after u (n + 1) own first.grows (own_under (table s u).columns n) near;
         shown = first.seen first.after (λ a name v. refl);
@@ -176,7 +176,7 @@ module _ (s : Schema) (g : Rights) (tables : List Table) (ok : FineTables s g ta
       let A : PredTree = filter_predicate s g u n from in
       let J' : List JoinTree = masks s g u cs n ++ J in
       let later : (here : Aliases) → Behind scope u n cs here → Joined tables here (n + 1 + extra s g u cs) m J V =
-          λ here behind. sooner tables here (n + 1 + extra s g u cs) (behind_filter s g u cs n) m J V (omega arith) (kids here behind) in
+      λ here behind. sooner tables here (n + 1 + extra s g u cs) (behind_filter s g u cs n) m J V (omega arith) (kids here behind) in
       let j = alias_joins scope u n m cs J V known (omega (arith, le)) bound later in
       let final : Aliases = j.after in
       let seen = j.seen final (λ a name v. refl) in
@@ -186,19 +186,19 @@ module _ (s : Schema) (g : Rights) (tables : List Table) (ok : FineTables s g ta
       record {
         is =
             table_typed s g tables ok scope final u n [] (value_output e) (joins_of J') (where_of (with_member tie (with_member A [])))
-              (key_orders (table s u).columns n (table s u).key) (Some 1) None known
+            (key_orders (table s u).columns n (table s u).key) (Some 1) None known
             (typed_last tables within (n + 1) m J' _ j) (joined_last tables within (n + 1) m J' _ j) (two_typed tables final tie A (tied final seen.0) kept) parts;
         shows = rw (joined_last tables within (n + 1) m J' _ j, same_text value_name) seen.1.1;
       }
 
   -- a link to the row of an alias
   pub tie_typed : (scope : Aliases) (t r p n : ℕ) (cs : List ℕ) → FineRel s t r → KnowsAll s scope t (own_look (table s t).columns p)
-    → p < n → (final : Aliases) → Behind scope (rel s t r).remote n cs final → is_typed_pred (link s t (rel s t r) p n) tables final ≡ true
+      → p < n → (final : Aliases) → Behind scope (rel s t r).remote n cs final → is_typed_pred (link s t (rel s t r) p n) tables final ≡ true
   tie_typed scope t r p n cs f k lt final behind =
       link_typed s g tables ok final t (rel s t r) p n f.1
-        (all_behind s scope final t n (own_look (table s t).columns p) behind.grows
-           (looks_under_later (p + 1) n (own_look (table s t).columns p) (omega arith) (own_under (table s t).columns p)) k)
-        behind.own
+      (all_behind s scope final t n (own_look (table s t).columns p) behind.grows
+      (looks_under_later (p + 1) n (own_look (table s t).columns p) (omega arith) (own_under (table s t).columns p)) k)
+      behind.own
 
   -- ---- sort keys
 
@@ -210,8 +210,8 @@ module _ (s : Schema) (g : Rights) (tables : List Table) (ok : FineTables s g ta
   sort_value : (rs : List ℕ) (u n m c : ℕ) (here : Aliases) (next : ℕ) (look : Look) → FineChain rs s u c → Knows s here u look (last_used rs c) → LooksUnder next look → next ≤ m
       → Joined tables here next m (sort_joins rs s g u n next c) (SortShown rs u next c)
       → Joined tables here next m (sort_joins rs s g u n next c)
-        (λ final. (is_value final (cell_at (sort_place false rs s look u n next c)) ≡ true)
-           × (kind final (cell_at (sort_place false rs s look u n next c)) ≡ Some (kind_of s (end_of rs s u) c)))
+      (λ final. (is_value final (cell_at (sort_place false rs s look u n next c)) ≡ true)
+      × (kind final (cell_at (sort_place false rs s look u n next c)) ≡ Some (kind_of s (end_of rs s u) c)))
   sort_value [] u n m c here next look f k l le j =
       joined_none tables here next m (λ final. (is_value final (cell_at (look c)) ≡ true) × (kind final (cell_at (look c)) ≡ Some (kind_of s u c)))
       (λ final grown.
@@ -240,15 +240,15 @@ module _ (s : Schema) (g : Rights) (tables : List Table) (ok : FineTables s g ta
       (sort_typed rs u n next c here f.1 behind.own (omega arith) (omega arith)) in
       let first = first_typed scope u n m cs (link s t (rel s t r) p n) e kd later f.0.0 (omega arith) (omega arith) (tie_typed scope t r p n cs f.0 k lt) kids in
       joined_one tables scope n top
-        (first_select s u n (link s t (rel s t r) p n) (filter_predicate s g u n (filter_from s g u cs n)) e (masks s g u cs n ++ later)) kd
-        (omega arith) (omega arith) first.is first.shows
+      (first_select s u n (link s t (rel s t r) p n) (filter_predicate s g u n (filter_from s g u cs n)) e (masks s g u cs n ++ later)) kd
+      (omega arith) (omega arith) first.is first.shows
 
   abbrev pub SortsShown : List Sort → (t n : ℕ) → Aliases → Type 0
   SortsShown [] t n final = Unit {0}
   SortsShown (k ∷ ks) t n final = SortShown k.key.through t n k.key.column final × SortsShown ks t (n + sort_numbers k.key.through s g t k.key.column) final
 
   pub sorts_typed : (ks : List Sort) (t p n : ℕ) (scope : Aliases) → Each (λ k. FineChain k.key.through s t k.key.column) ks
-    → KnowsAll s scope t (own_look (table s t).columns p) → p < n → n + sorts_numbers ks s g t ≤ 2 ^ 64
+      → KnowsAll s scope t (own_look (table s t).columns p) → p < n → n + sorts_numbers ks s g t ≤ 2 ^ 64
       → Joined tables scope n (n + sorts_numbers ks s g t) (sorts_joins ks s g t p n) (SortsShown ks t n)
   sorts_typed [] t p n scope f k lt bound = joined_none tables scope n (n + 0) (SortsShown [] t n) (λ final grown. tt)
   sorts_typed (x ∷ ks) t p n scope f k lt bound =
@@ -260,4 +260,4 @@ module _ (s : Schema) (g : Rights) (tables : List Table) (ok : FineTables s g ta
       let rest = sorts_typed ks t p mid one.after f.1 behind (omega arith) (omega arith) in
       let wide = joined_as tables one.after mid (mid + sorts_numbers ks s g t) top (sorts_joins ks s g t p mid) (SortsShown ks t mid) (SortsShown ks t mid) (omega arith) (λ final h. h) rest in
       joined_then tables scope n mid top (sort_joins x.key.through s g t p n x.key.column) (sorts_joins ks s g t p mid)
-        (SortShown x.key.through t n x.key.column) (SortsShown ks t mid) (omega arith) (omega arith) one wide
+      (SortShown x.key.through t n x.key.column) (SortsShown ks t mid) (omega arith) (omega arith) one wide

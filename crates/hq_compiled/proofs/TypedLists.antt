@@ -36,7 +36,7 @@ no_value [] s g look t p n i = refl
 no_value (k ∷ ks) s g look t p n i = rw (value_is_no_key i, no_value ks s g look t p (n + sort_numbers k.key.through s g t k.key.column) (i + 1)) refl
 
 no_later : (j : ℕ) (ks : List Sort) (s : Schema) (g : Rights) (look : Look) (t p n i : ℕ) → j < i → i + length ks ≤ 2 ^ 64
-  → list_any (bytes_eq (key_name j)) (map (λ o. o.name) (key_outputs ks s g look t p n i)) ≡ false
+    → list_any (bytes_eq (key_name j)) (map (λ o. o.name) (key_outputs ks s g look t p n i)) ≡ false
 no_later j [] s g look t p n i lt few = refl
 no_later j (k ∷ ks) s g look t p n i lt few =
     rw (key_names_differ j i lt (omega arith), no_later j ks s g look t p (n + sort_numbers k.key.through s g t k.key.column) (i + 1) (omega arith) (omega arith)) refl
@@ -79,8 +79,8 @@ module _ (columns : List Column) (look : Look) where
   all_among (c ∷ cs) front h =
       let parts = both (is_used c front) (list_all (λ c. is_used c front) cs) h in
       two (is_among (distinct_columns columns look front) (at_place c))
-        (list_all (is_among (distinct_columns columns look front)) (distinct_columns columns look cs)) (among_columns c front parts.0)
-        (all_among cs front parts.1)
+      (list_all (is_among (distinct_columns columns look front)) (distinct_columns columns look cs)) (among_columns c front parts.0)
+      (all_among cs front parts.1)
 
 begin_now : (distinct front : List ExprTree) (keys : List OrderTree) → list_all (is_among front) distinct ≡ true → begin_with distinct front keys ≡ true
 begin_now distinct front [] h = h
@@ -91,14 +91,14 @@ module _ (s : Schema) (g : Rights) (look : Look) (t p : ℕ) where
       → begin_with (distinct_columns (table s t).columns look distinct) (distinct_columns (table s t).columns look front) (orders (shown_sorts ks rest) s g look t p n) ≡ true
   begins distinct front [] rest n h =
       begin_now (distinct_columns (table s t).columns look distinct) (distinct_columns (table s t).columns look front)
-        (orders rest s g look t p n) (all_among (table s t).columns look distinct front h)
+      (orders rest s g look t p n) (all_among (table s t).columns look distinct front h)
   begins distinct front (k ∷ ks) rest n h =
       let D : List ExprTree = distinct_columns (table s t).columns look distinct in
       let E : List ExprTree = distinct_columns (table s t).columns look front in
       let next : ℕ = n + sort_numbers k.through s g t k.column in
       let value : List ℕ → ExprTree =
-          λ rs. tree.column (sort_place false rs s look t p n k.column).alias (sort_place false rs s look t p n k.column).name
-            (is_text_column (table s (end_of rs s t)).columns k.column) in
+      λ rs. tree.column (sort_place false rs s look t p n k.column).alias (sort_place false rs s look t p n k.column).name
+      (is_text_column (table s (end_of rs s t)).columns k.column) in
       let go : (b : Bool) → list_all (λ c. is_used c front) distinct ≡ b → (b || ((length k.through == 0) && is_used k.column distinct && begin_columns distinct (k.column ∷ front) ks)) ≡ true
       → (list_all (is_among E) D || (is_among D (value k.through) && begin_with D (value k.through ∷ E) (orders (shown_sorts ks rest) s g look t p next))) ≡ true =
       elim [
@@ -111,10 +111,10 @@ module _ (s : Schema) (g : Rights) (look : Look) (t p : ℕ) where
             let among = among_columns (table s t).columns look k.column distinct others.1 in
             let later = begins distinct (k.column ∷ front) ks rest next parts.1 in
             or_right (list_all (is_among E) D) _
-              (rw here
-                 (two (is_among D (at_place (table s t).columns look k.column))
-                    (begin_with D (at_place (table s t).columns look k.column ∷ E) (orders (shown_sorts ks rest) s g look t p next)) among
-                    later))
+            (rw here
+            (two (is_among D (at_place (table s t).columns look k.column))
+            (begin_with D (at_place (table s t).columns look k.column ∷ E) (orders (shown_sorts ks rest) s g look t p next)) among
+            later))
       ] in
       go (list_all (λ c. is_used c front) distinct) refl h
     where
@@ -150,7 +150,7 @@ ascending_fine s t [] h = tt
 ascending_fine s t (c ∷ cs) h = (h.0, ascending_fine s t cs h.1)
 
 entries_fine : (s : Schema) (t : ℕ) (ks : List SortKey) (cs : List ℕ) → Each (λ k. FineChain k.through s t k.column) ks → Each (Has s t) cs
-  → Each (λ k. FineChain k.through s t k.column) (sorts_or ks (ascending cs))
+    → Each (λ k. FineChain k.through s t k.column) (sorts_or ks (ascending cs))
 entries_fine s t [] cs h c = ascending_fine s t cs c
 entries_fine s t (k ∷ ks) cs h c = h
 
@@ -164,12 +164,12 @@ module _ (s : Schema) (g : Rights) (tables : List Table) (ok : FineTables s g ta
   KeyKinds [] look t p n final = Unit {0}
   KeyKinds (k ∷ ks) look t p n final =
       (kind_at final (sort_place k.own k.key.through s look t p n k.key.column).alias
-           (sort_place k.own k.key.through s look t p n k.key.column).name
-         ≡ Some (kind_of s (end_of k.key.through s t) k.key.column))
+      (sort_place k.own k.key.through s look t p n k.key.column).name
+      ≡ Some (kind_of s (end_of k.key.through s t) k.key.column))
       × KeyKinds ks look t p (n + sort_numbers k.key.through s g t k.key.column) final
 
   key_kind : (own : Bool) (rs : List ℕ) (look : Look) (t p n c : ℕ) (final : Aliases) → FineChain rs s t c → OwnFits own rs
-    → KnowsAll s final t (own_look (table s t).columns p) → Knows s final t look (used_by own rs c) → SortShown s g tables ok rs t n c final
+      → KnowsAll s final t (own_look (table s t).columns p) → Knows s final t look (used_by own rs c) → SortShown s g tables ok rs t n c final
       → kind_at final (sort_place own rs s look t p n c).alias (sort_place own rs s look t p n c).name ≡ Some (kind_of s (end_of rs s t) c)
   key_kind true [] look t p n c final f o k l h = k c f
   key_kind true (r ∷ rs) look t p n c final f o k l h = absurd o
@@ -177,8 +177,8 @@ module _ (s : Schema) (g : Rights) (tables : List Table) (ok : FineTables s g ta
   key_kind false (r ∷ rs) look t p n c final f o k l h = h
 
   key_kinds : (ks : List Sort) (look : Look) (t p n : ℕ) (final : Aliases) → Each (FineSort s t) ks
-    → KnowsAll s final t (own_look (table s t).columns p) → Knows s final t look (used_sorts ks) → SortsShown s g tables ok ks t n final
-    → KeyKinds ks look t p n final
+      → KnowsAll s final t (own_look (table s t).columns p) → Knows s final t look (used_sorts ks) → SortsShown s g tables ok ks t n final
+      → KeyKinds ks look t p n final
   key_kinds [] look t p n final f k l h = tt
   key_kinds (x ∷ ks) look t p n final f k l h =
       let here : List ℕ = used_by x.own x.key.through x.key.column in (
@@ -204,7 +204,7 @@ module _ (s : Schema) (g : Rights) (tables : List Table) (ok : FineTables s g ta
 
   -- the outputs of the sort keys are compared behind the fold's alias
   keys_behind : (ks : List Sort) (look : Look) (t p n m i : ℕ) (final outer : Aliases) (all : Names)
-    → ((name : List ℕ) → kind_at outer (fold_alias m) name ≡ kind_named all name) → KeyKinds ks look t p n final → i + length ks ≤ 2 ^ 64
+      → ((name : List ℕ) → kind_at outer (fold_alias m) name ≡ kind_named all name) → KeyKinds ks look t p n final → i + length ks ≤ 2 ^ 64
       → ((k : ℕ) → i ≤ k → k < 2 ^ 64 → kind_named all (key_name k) ≡ kind_named (out_names final (key_outputs ks s g look t p n i)) (key_name k))
       → are_keys outer (orders_of (output_orders ks s t m i)) ≡ true
   keys_behind [] look t p n m i final outer all names h few left = refl
@@ -221,7 +221,7 @@ module _ (s : Schema) (g : Rights) (tables : List Table) (ok : FineTables s g ta
       (keys_behind ks look t p next m (i + 1) final outer all names h.1 (omega arith) later)
 
   distinct_typed : (scope : Aliases) (t : ℕ) (look : Look) (cs : List ℕ) → Each (Has s t) cs → Knows s scope t look cs
-    → list_all (is_compared scope) (distinct_columns (table s t).columns look cs) ≡ true
+      → list_all (is_compared scope) (distinct_columns (table s t).columns look cs) ≡ true
   distinct_typed scope t look [] h k = refl
   distinct_typed scope t look (c ∷ cs) h k =
       two (is_compared scope (compared_at (table s t).columns (look c) c)) (list_all (is_compared scope) (distinct_columns (table s t).columns look cs))
@@ -235,12 +235,12 @@ module _ (s : Schema) (g : Rights) (tables : List Table) (ok : FineTables s g ta
     pub seen : V final
     pub keys : KeyKinds (list_sorts s u a) (shown_look s g u cs n) u n (sorts_from s g u cs a n) final
     pub typed : (limit : Option ℕ) (outs : List OutTree) → list_all (λ o. is_value final o.value) outs ≡ true
-      → all_differ bytes_eq (map (λ o. o.name) outs) ≡ true → is_typed (list_rows s g u cs a n tie limit outs J) tables scope ≡ true
+        → all_differ bytes_eq (map (λ o. o.name) outs) ≡ true → is_typed (list_rows s g u cs a n tie limit outs J) tables scope ≡ true
     pub names : (limit : Option ℕ) (outs : List OutTree) → select_names (list_rows s g u cs a n tie limit outs J) tables scope ≡ out_names final outs
 
   pub rows_typed : (scope : Aliases) (u n m : ℕ) (more : List ℕ) (a : ListArguments) (tie : PredTree) (J : List JoinTree)
       (V : Aliases → Type 0)
-    → Known s u → FineArguments s u a → children_from s g u (list_used s u a more) a n ≤ m → m ≤ 2 ^ 64
+      → Known s u → FineArguments s u a → children_from s g u (list_used s u a more) a n ≤ m → m ≤ 2 ^ 64
       → ((final : Aliases) → Behind s g tables ok scope u n (list_used s u a more) final → is_typed_pred tie tables final ≡ true)
       → ((here : Aliases) → Behind s g tables ok scope u n (list_used s u a more) here → Joined tables here (children_from s g u (list_used s u a more) a n) m J V)
       → Rows scope u n (list_used s u a more) a tie J V
@@ -253,8 +253,8 @@ module _ (s : Schema) (g : Rights) (tables : List Table) (ok : FineTables s g ta
       let kid : ℕ = children_from s g u cs a n in
       let S : List JoinTree = sorts_joins ks s g u n first in
       let fine_keys : Each (FineSort s u) ks =
-          shown_fine s u (entries a) (own_sorts (table s u).key) (entries_fine s u a.sorts a.distinct fine.sorts fine.distinct)
-            (own_fine s u (table s u).key (ok u known).key) in
+      shown_fine s u (entries a) (own_sorts (table s u).key) (entries_fine s u a.sorts a.distinct fine.sorts fine.distinct)
+      (own_fine s u (table s u).key (ok u known).key) in
       let later : (here : Aliases) → Behind s g tables ok scope u n cs here → Joined tables here (n + 1 + extra s g u cs) m (S ++ J) (λ final. SortsShown s g tables ok ks u first final × V final) =
       λ here behind.
       let sorts = sorts_typed s g tables ok ks u n first here (chains s u ks fine_keys) behind.own (omega arith) (omega (arith, le)) in
@@ -296,40 +296,40 @@ module _ (s : Schema) (g : Rights) (tables : List Table) (ok : FineTables s g ta
         keys = keys;
         typed = λ limit outs values differ.
             table_typed s g tables ok scope final u n D outs (joins_of all) (where_of (with_member tie (with_member A (with_member B []))))
-              K limit a.offset known (typed_last tables within (n + 1) m all _ j) joins condition
+            K limit a.offset known (typed_last tables within (n + 1) m all _ j) joins condition
             (parts_hold final D outs K distinct lead values differ order);
         names = λ limit outs. ap (λ scope. out_names scope outs) joins;
       }
     where
       behind_more : (scope : Aliases) (u n : ℕ) (cs : List ℕ) (from : ℕ) (here after : Aliases) → n + 1 + extra s g u cs ≤ from
-        → from ≤ 2 ^ 64 → Grows from here after → Behind s g tables ok scope u n cs here → Behind s g tables ok scope u n cs after
+          → from ≤ 2 ^ 64 → Grows from here after → Behind s g tables ok scope u n cs here → Behind s g tables ok scope u n cs after
       behind_more scope u n cs from here after le small grown behind = record {
         own =
             all_behind s here after u from (own_look (table s u).columns n) grown
-              (looks_under_later (n + 1) from (own_look (table s u).columns n) (omega (arith, le)) (own_under (table s u).columns n))
-              behind.own;
+            (looks_under_later (n + 1) from (own_look (table s u).columns n) (omega (arith, le)) (own_under (table s u).columns n))
+            behind.own;
         shown =
             λ c has used. grown (shown_look s g u cs n c).alias (shown_look s g u cs n c).name
-                (under_later (n + 1 + extra s g u cs) from (shown_look s g u cs n c).alias le
-                   (shown_under s g tables ok u n cs (omega (arith, le, small)) c))
-              ∙ behind.shown c has used;
+            (under_later (n + 1 + extra s g u cs) from (shown_look s g u cs n c).alias le
+            (shown_under s g tables ok u n cs (omega (arith, le, small)) c))
+            ∙ behind.shown c has used;
         grows = λ a name v. grown a name (under_later n from a (omega (arith, le)) v) ∙ behind.grows a name v;
       }
 
   -- ---- a list
 
   pub object_typed : (scope : Aliases) (ps : List PairTree) → all_differ bytes_eq (pair_names (pairs_of ps)) ≡ true
-    → are_values scope (pairs_of ps) ≡ true → is_value scope (tree.object (pairs_of ps)) ≡ true
+      → are_values scope (pairs_of ps) ≡ true → is_value scope (tree.object (pairs_of ps)) ≡ true
   object_typed scope ps d v = rw (d, v) refl
 
   pub list_typed : (scope : Aliases) (u n m : ℕ) (more : List ℕ) (a : ListArguments) (tie : PredTree) (ps : List PairTree)
       (J : List JoinTree)
-    → Known s u → FineArguments s u a → children_from s g u (list_used s u a more) a n ≤ m → m ≤ 2 ^ 64
+      → Known s u → FineArguments s u a → children_from s g u (list_used s u a more) a n ≤ m → m ≤ 2 ^ 64
       → all_differ bytes_eq (pair_names (pairs_of ps)) ≡ true
       → ((final : Aliases) → Behind s g tables ok scope u n (list_used s u a more) final → is_typed_pred tie tables final ≡ true)
       →
-        ((here : Aliases) → Behind s g tables ok scope u n (list_used s u a more) here
-           → Joined tables here (children_from s g u (list_used s u a more) a n) m J (λ final. are_values final (pairs_of ps) ≡ true))
+      ((here : Aliases) → Behind s g tables ok scope u n (list_used s u a more) here
+      → Joined tables here (children_from s g u (list_used s u a more) a n) m J (λ final. are_values final (pairs_of ps) ≡ true))
       → First tables scope (list_select s g u (list_used s u a more) a n tie ps J) (Some well.json)
   list_typed scope u n m more a tie ps J known fine le bound apart tied kids =
       let cs : List ℕ = list_used s u a more in
@@ -342,13 +342,13 @@ module _ (s : Schema) (g : Rights) (tables : List Table) (ok : FineTables s g ta
       let outs : List OutTree = list_outputs s g u cs a n ps in
       let values : list_all (λ o. is_value final o.value) outs ≡ true =
       two (is_value final (tree.object (pairs_of ps))) (list_all (λ o. is_value final o.value) (key_outputs ks s g look u n first 0))
-        (object_typed final ps apart r.seen) (outputs_typed ks look u n first 0 final r.keys) in
+      (object_typed final ps apart r.seen) (outputs_typed ks look u n first 0 final r.keys) in
       let differ : all_differ bytes_eq (map (λ o. o.name) outs) ≡ true = rw (no_value ks s g look u n first 0, keys_differ ks s g look u n first 0 (let few = fine.few in omega (arith, few))) refl in
       let inner : SelectTree = list_rows s g u cs a n tie limit outs J in
       let inner_is = r.typed limit outs values differ in
       let behind : Aliases = (fold_alias n, select_names inner tables scope) ∷ scope in
       let shows : (name : List ℕ) → kind_at behind (fold_alias n) name ≡ kind_named (out_names final outs) name =
-          λ name. rw (same_text (fold_alias n)) (ap (λ ns. kind_named ns name) (r.names limit outs)) in
+      λ name. rw (same_text (fold_alias n)) (ap (λ ns. kind_named ns name) (r.names limit outs)) in
       let value : kind_at behind (fold_alias n) value_name ≡ Some well.json = shows value_name ∙ rw (same_text value_name) refl in
       let past : (k : ℕ) → kind_named (out_names final outs) (key_name k) ≡ kind_named (out_names final (key_outputs ks s g look u n first 0)) (key_name k) = λ k. rw (value_is_no_key k) refl in
       let keys = keys_behind ks look u n first n 0 final behind (out_names final outs) shows r.keys (let few = fine.few in omega (arith, few)) (λ k a b. past k) in

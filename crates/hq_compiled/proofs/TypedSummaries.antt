@@ -76,7 +76,7 @@ module _ (s : Schema) (u : ℕ) where
   needed_typed final look [] i h k = refl
   needed_typed final look (c ∷ cs) i h k =
       two (is_value final (cell_at (look c))) (list_all (λ o. is_value final o.value) (needed_columns look cs (i + 1)))
-        (value_of final (look c).alias (look c).name (kind_of s u c) (k c h.0 (used_left c (c ∷ []) cs (used_one c))))
+      (value_of final (look c).alias (look c).name (kind_of s u c) (k c h.0 (used_left c (c ∷ []) cs (used_one c))))
       (needed_typed final look cs (i + 1) h.1 (λ d has used. k d has (used_right d (c ∷ []) cs used)))
 
   needed_outputs_typed : (final : Aliases) (look : Look) (cs : List ℕ) → Each (Has s u) cs → Knows s final u look cs → list_all (λ o. is_value final o.value) (needed_outputs look cs) ≡ true
@@ -84,12 +84,12 @@ module _ (s : Schema) (u : ℕ) where
   needed_outputs_typed final look (c ∷ cs) h k = needed_typed final look (c ∷ cs) 0 h k
 
   needed_kind : (final : Aliases) (look : Look) (cs : List ℕ) (i c : ℕ) → is_used c cs ≡ true → i + length cs ≤ 2 ^ 64
-    → kind_named (out_names final (needed_columns look cs i)) (needed_name (place_of c cs i)) ≡ kind final (cell_at (look c))
+      → kind_named (out_names final (needed_columns look cs i)) (needed_name (place_of c cs i)) ≡ kind final (cell_at (look c))
   needed_kind final look [] i c h bound = cc
   needed_kind final look (d ∷ ds) i c h bound =
       let go : (b : Bool) → (c == d) ≡ b → (b || is_used c ds) ≡ true
-        → kind_named (out_names final (needed_columns look (d ∷ ds) i)) (needed_name (cond b i (place_of c ds (i + 1))))
-          ≡ kind final (cell_at (look c)) =
+      → kind_named (out_names final (needed_columns look (d ∷ ds) i)) (needed_name (cond b i (place_of c ds (i + 1))))
+      ≡ kind final (cell_at (look c)) =
       elim [
         | true ↦ λ q f. rw (same_text (needed_name i)) (ap (λ k. kind final (cell_at (look k))) (sym (eqb-true c d q)))
         | false ↦ λ q f.
@@ -99,7 +99,7 @@ module _ (s : Schema) (u : ℕ) where
       go (c == d) refl h
 
   outputs_kind : (final : Aliases) (look : Look) (cs : List ℕ) (c : ℕ) → is_used c cs ≡ true → length cs ≤ 2 ^ 64
-    → kind_named (out_names final (needed_outputs look cs)) (needed_name (place_of c cs 0)) ≡ kind final (cell_at (look c))
+      → kind_named (out_names final (needed_outputs look cs)) (needed_name (place_of c cs 0)) ≡ kind final (cell_at (look c))
   outputs_kind final look [] c h bound = cc
   outputs_kind final look (d ∷ ds) c h bound = needed_kind final look (d ∷ ds) 0 c h (omega arith)
 
@@ -118,21 +118,21 @@ outputs_differ look (c ∷ cs) few = needed_differ look (c ∷ cs) 0 (omega arit
 -- ---- the aggregates
 
 sum_of : (scope : Aliases) (alias name : List ℕ) (ty : Ty) → kind_at scope alias name ≡ Some (kind_of_type ty)
-  → is_summed (Some (kind_of_type ty)) ≡ true → is_taken scope (tree.sum (tree.column alias name (is_text ty))) ≡ true
+    → is_summed (Some (kind_of_type ty)) ≡ true → is_taken scope (tree.sum (tree.column alias name (is_text ty))) ≡ true
 sum_of scope alias name Integer e h = rw e refl
 sum_of scope alias name Bigint e h = rw e refl
 sum_of scope alias name Text e h = cc
 sum_of scope alias name Boolean e h = cc
 
 min_of : (scope : Aliases) (alias name : List ℕ) (ty : Ty) → kind_at scope alias name ≡ Some (kind_of_type ty)
-  → has_extremes (Some (kind_of_type ty)) ≡ true → is_taken scope (tree.min (tree.column alias name (is_text ty))) ≡ true
+    → has_extremes (Some (kind_of_type ty)) ≡ true → is_taken scope (tree.min (tree.column alias name (is_text ty))) ≡ true
 min_of scope alias name Integer e h = rw e refl
 min_of scope alias name Bigint e h = rw e refl
 min_of scope alias name Text e h = rw e refl
 min_of scope alias name Boolean e h = cc
 
 max_of : (scope : Aliases) (alias name : List ℕ) (ty : Ty) → kind_at scope alias name ≡ Some (kind_of_type ty)
-  → has_extremes (Some (kind_of_type ty)) ≡ true → is_taken scope (tree.max (tree.column alias name (is_text ty))) ≡ true
+    → has_extremes (Some (kind_of_type ty)) ≡ true → is_taken scope (tree.max (tree.column alias name (is_text ty))) ≡ true
 max_of scope alias name Integer e h = rw e refl
 max_of scope alias name Bigint e h = rw e refl
 max_of scope alias name Text e h = rw e refl
@@ -148,7 +148,7 @@ summary_names columns n cs (f ∷ fs) = ap (λ l. f.key ∷ l) (summary_names co
 
 -- without aggregates the values are texts
 text_taken : (scope : Aliases) (f : ExprTree → AggTree) (columns : List Column) (n : ℕ) (cs : List ℕ) (ks : List KeyedAggCol)
-  → some_taken ks ≡ false → are_values scope (pairs_of (taken_pairs f columns n cs ks)) ≡ true
+    → some_taken ks ≡ false → are_values scope (pairs_of (taken_pairs f columns n cs ks)) ≡ true
 text_taken scope f columns n cs [] h = refl
 text_taken scope f columns n cs (k ∷ ks) h =
     let go : (a : AggCol) → (sums.is_taken a || some_taken ks) ≡ false → (is_value scope (taken_value f columns n cs a) && are_values scope (pairs_of (taken_pairs f columns n cs ks))) ≡ true =
@@ -157,15 +157,15 @@ text_taken scope f columns n cs (k ∷ ks) h =
 
 text_object : (s : Schema) (u : ℕ) (test : Option Kind → Bool) (scope : Aliases) (f : ExprTree → AggTree) (columns : List Column) (n : ℕ)
     (cs : List ℕ) (ks : List KeyedAggCol)
-  → all_differ bytes_eq (map (λ k. k.key) ks) ≡ true → some_taken ks ≡ false
+    → all_differ bytes_eq (map (λ k. k.key) ks) ≡ true → some_taken ks ≡ false
     → is_value scope (tree.object (pairs_of (taken_pairs f columns n cs ks))) ≡ true
 text_object s u test scope f columns n cs ks d h =
     two (all_differ bytes_eq (pair_names (pairs_of (taken_pairs f columns n cs ks))))
-      (are_values scope (pairs_of (taken_pairs f columns n cs ks))) (ap (all_differ bytes_eq) (taken_names f columns n cs ks) ∙ d)
-      (text_taken scope f columns n cs ks h)
+    (are_values scope (pairs_of (taken_pairs f columns n cs ks))) (ap (all_differ bytes_eq) (taken_names f columns n cs ks) ∙ d)
+    (text_taken scope f columns n cs ks h)
 
 text_summary : (s : Schema) (u : ℕ) (scope : Aliases) (columns : List Column) (n : ℕ) (cs : List ℕ) (a : AggField) → FineSummary s u a
-  → is_aggregate a ≡ false → is_value scope (summary_value columns n cs a) ≡ true
+    → is_aggregate a ≡ false → is_value scope (summary_value columns n cs a) ≡ true
 text_summary s u scope columns n cs (take.Count c distinct) f h = cc
 text_summary s u scope columns n cs (take.Sum ks) f h = text_object s u is_summed scope tree.sum columns n cs ks f.1 h
 text_summary s u scope columns n cs (take.Min ks) f h = text_object s u has_extremes scope tree.min columns n cs ks f.1 h
@@ -173,85 +173,85 @@ text_summary s u scope columns n cs (take.Max ks) f h = text_object s u has_extr
 text_summary s u scope columns n cs (take.Typename name) f h = refl
 
 text_summaries : (s : Schema) (u : ℕ) (scope : Aliases) (columns : List Column) (n : ℕ) (cs : List ℕ) (fs : List KeyedAggField)
-  → Each (λ f. FineSummary s u f.field) fs → some_aggregate fs ≡ false → are_values scope (pairs_of (summary_pairs columns n cs fs)) ≡ true
+    → Each (λ f. FineSummary s u f.field) fs → some_aggregate fs ≡ false → are_values scope (pairs_of (summary_pairs columns n cs fs)) ≡ true
 text_summaries s u scope columns n cs [] f h = refl
 text_summaries s u scope columns n cs (x ∷ fs) f h =
     let go : (b : Bool) → is_aggregate x.field ≡ b → (b || some_aggregate fs) ≡ false → are_values scope (pairs_of (summary_pairs columns n cs (x ∷ fs))) ≡ true =
     elim [
       | true ↦ λ e i. cc
       | false
-        ↦ λ e i. two (is_value scope (summary_value columns n cs x.field)) (are_values scope (pairs_of (summary_pairs columns n cs fs)))
+          ↦ λ e i. two (is_value scope (summary_value columns n cs x.field)) (are_values scope (pairs_of (summary_pairs columns n cs fs)))
           (text_summary s u scope columns n cs x.field f.0 e) (text_summaries s u scope columns n cs fs f.1 i)
     ] in
     go (is_aggregate x.field) refl h
 
 -- behind the alias of a fold over rows that have the needed columns
 module _ (s : Schema) (u n : ℕ) (cs : List ℕ) (behind : Aliases)
-  (cells : (c : ℕ) → Has s u c → is_used c cs ≡ true → kind_at behind (fold_alias n) (needed_name (place_of c cs 0)) ≡ Some (kind_of s u c))
+    (cells : (c : ℕ) → Has s u c → is_used c cs ≡ true → kind_at behind (fold_alias n) (needed_name (place_of c cs 0)) ≡ Some (kind_of s u c))
   where
-  abbrev columns : List Column
-  columns = (table s u).columns
+    abbrev columns : List Column
+    columns = (table s u).columns
 
-  abbrev column_ty : ℕ → Ty
-  column_ty c = (slice_index_or columns c no_column).ty
+    abbrev column_ty : ℕ → Ty
+    column_ty c = (slice_index_or columns c no_column).ty
 
-  module _ (f : ExprTree → AggTree) (test : Option Kind → Bool)
-      (typed : (alias name : List ℕ) (ty : Ty) → kind_at behind alias name ≡ Some (kind_of_type ty) → test (Some (kind_of_type ty)) ≡ true
-           → is_taken behind (f (tree.column alias name (is_text ty))) ≡ true)
-        where
-    taken_one : (a : AggCol) → FineTaken test s u a → CoversColumn a cs → is_folded behind (taken_value f columns n cs a) ≡ true
-    taken_one (of.Column c) h used = typed (fold_alias n) (needed_name (place_of c cs 0)) (column_ty c) (cells c h.0 used) h.1
-    taken_one (of.Typename name) h used = refl
+    module _ (f : ExprTree → AggTree) (test : Option Kind → Bool)
+        (typed : (alias name : List ℕ) (ty : Ty) → kind_at behind alias name ≡ Some (kind_of_type ty) → test (Some (kind_of_type ty)) ≡ true
+        → is_taken behind (f (tree.column alias name (is_text ty))) ≡ true)
+      where
+        taken_one : (a : AggCol) → FineTaken test s u a → CoversColumn a cs → is_folded behind (taken_value f columns n cs a) ≡ true
+        taken_one (of.Column c) h used = typed (fold_alias n) (needed_name (place_of c cs 0)) (column_ty c) (cells c h.0 used) h.1
+        taken_one (of.Typename name) h used = refl
 
-    taken_all : (ks : List KeyedAggCol) → Each (λ k. FineTaken test s u k.field) ks → CoversColumns ks cs → are_folded behind (pairs_of (taken_pairs f columns n cs ks)) ≡ true
-    taken_all [] h used = refl
-    taken_all (k ∷ ks) h used =
-        two (is_folded behind (taken_value f columns n cs k.field)) (are_folded behind (pairs_of (taken_pairs f columns n cs ks)))
-          (taken_one k.field h.0 used.0) (taken_all ks h.1 used.1)
+        taken_all : (ks : List KeyedAggCol) → Each (λ k. FineTaken test s u k.field) ks → CoversColumns ks cs → are_folded behind (pairs_of (taken_pairs f columns n cs ks)) ≡ true
+        taken_all [] h used = refl
+        taken_all (k ∷ ks) h used =
+            two (is_folded behind (taken_value f columns n cs k.field)) (are_folded behind (pairs_of (taken_pairs f columns n cs ks)))
+            (taken_one k.field h.0 used.0) (taken_all ks h.1 used.1)
 
-    taken_object : (ks : List KeyedAggCol) → Each (λ k. FineTaken test s u k.field) ks → all_differ bytes_eq (map (λ k. k.key) ks) ≡ true
-      → CoversColumns ks cs → is_folded behind (tree.object (pairs_of (taken_pairs f columns n cs ks))) ≡ true
-    taken_object ks h d used =
-        two (all_differ bytes_eq (pair_names (pairs_of (taken_pairs f columns n cs ks))))
-          (are_folded behind (pairs_of (taken_pairs f columns n cs ks))) (ap (all_differ bytes_eq) (taken_names f columns n cs ks) ∙ d)
-          (taken_all ks h used)
+        taken_object : (ks : List KeyedAggCol) → Each (λ k. FineTaken test s u k.field) ks → all_differ bytes_eq (map (λ k. k.key) ks) ≡ true
+            → CoversColumns ks cs → is_folded behind (tree.object (pairs_of (taken_pairs f columns n cs ks))) ≡ true
+        taken_object ks h d used =
+            two (all_differ bytes_eq (pair_names (pairs_of (taken_pairs f columns n cs ks))))
+            (are_folded behind (pairs_of (taken_pairs f columns n cs ks))) (ap (all_differ bytes_eq) (taken_names f columns n cs ks) ∙ d)
+            (taken_all ks h used)
 
-  summary_one : (a : AggField) → FineSummary s u a → CoversField a cs → is_folded behind (summary_value columns n cs a) ≡ true
-  summary_one (take.Count None distinct) h used = refl
-  summary_one (take.Count (Some c) true) h used = compared_of behind (fold_alias n) (needed_name (place_of c cs 0)) (column_ty c) (cells c h used)
-  summary_one (take.Count (Some c) false) h used = value_of behind (fold_alias n) (needed_name (place_of c cs 0)) (kind_of s u c) (cells c h used)
-  summary_one (take.Sum ks) h used = taken_object tree.sum is_summed (sum_of behind) ks h.0 h.1 used
-  summary_one (take.Min ks) h used = taken_object tree.min has_extremes (min_of behind) ks h.0 h.1 used
-  summary_one (take.Max ks) h used = taken_object tree.max has_extremes (max_of behind) ks h.0 h.1 used
-  summary_one (take.Typename name) h used = refl
+    summary_one : (a : AggField) → FineSummary s u a → CoversField a cs → is_folded behind (summary_value columns n cs a) ≡ true
+    summary_one (take.Count None distinct) h used = refl
+    summary_one (take.Count (Some c) true) h used = compared_of behind (fold_alias n) (needed_name (place_of c cs 0)) (column_ty c) (cells c h used)
+    summary_one (take.Count (Some c) false) h used = value_of behind (fold_alias n) (needed_name (place_of c cs 0)) (kind_of s u c) (cells c h used)
+    summary_one (take.Sum ks) h used = taken_object tree.sum is_summed (sum_of behind) ks h.0 h.1 used
+    summary_one (take.Min ks) h used = taken_object tree.min has_extremes (min_of behind) ks h.0 h.1 used
+    summary_one (take.Max ks) h used = taken_object tree.max has_extremes (max_of behind) ks h.0 h.1 used
+    summary_one (take.Typename name) h used = refl
 
-  summary_all : (fs : List KeyedAggField) → Each (λ f. FineSummary s u f.field) fs → Covers fs cs → are_folded behind (pairs_of (summary_pairs columns n cs fs)) ≡ true
-  summary_all [] h used = refl
-  summary_all (f ∷ fs) h used =
-      two (is_folded behind (summary_value columns n cs f.field)) (are_folded behind (pairs_of (summary_pairs columns n cs fs)))
+    summary_all : (fs : List KeyedAggField) → Each (λ f. FineSummary s u f.field) fs → Covers fs cs → are_folded behind (pairs_of (summary_pairs columns n cs fs)) ≡ true
+    summary_all [] h used = refl
+    summary_all (f ∷ fs) h used =
+        two (is_folded behind (summary_value columns n cs f.field)) (are_folded behind (pairs_of (summary_pairs columns n cs fs)))
         (summary_one f.field h.0 used.0) (summary_all fs h.1 used.1)
 
 -- ---- the selects
 
 module _ (s : Schema) (g : Rights) (tables : List Table) (ok : FineTables s g tables) where
   folded_typed : (scope : Aliases) (u n : ℕ) (fs : List KeyedAggField) (a : ListArguments) (tie : PredTree) → Known s u
-    → FineArguments s u a → FineSummaries s u fs → n + list_numbers s g u (summary_used s u a fs) a ≤ 2 ^ 64
+      → FineArguments s u a → FineSummaries s u fs → n + list_numbers s g u (summary_used s u a fs) a ≤ 2 ^ 64
       → ((final : Aliases) → Behind s g tables ok scope u n (summary_used s u a fs) final → is_typed_pred tie tables final ≡ true)
-        → First tables scope (folded_select fs s g u a n tie) (Some well.json)
+      → First tables scope (folded_select fs s g u a n tie) (Some well.json)
   folded_typed scope u n fs a tie known fine each bound tied =
       let need : List ℕ = needed fs [] in
       let cs : List ℕ = summary_used s u a fs in
       let look : Look = shown_look s g u cs n in
       let m : ℕ = children_from s g u cs a n in
       let r =
-          rows_typed s g tables ok scope u n m need a tie [] (λ final. Unit {0}) known fine (omega arith) (omega arith) tied
-            (λ here behind. joined_none tables here m m (λ final. Unit {0}) (λ final grown. tt)) in
+      rows_typed s g tables ok scope u n m need a tie [] (λ final. Unit {0}) known fine (omega arith) (omega arith) tied
+      (λ here behind. joined_none tables here m m (λ final. Unit {0}) (λ final grown. tt)) in
       let final : Aliases = r.final in
       let sorts : List ℕ = used_sorts (list_sorts s u a) in
       let shown : Knows s final u look need =
-          knows_right s final u look a.distinct need
-            (knows_right s final u look sorts (a.distinct ++ need)
-               (knows_right s final u look (columns_in a.wanted) (sorts ++ (a.distinct ++ need)) r.behind.shown)) in
+      knows_right s final u look a.distinct need
+      (knows_right s final u look sorts (a.distinct ++ need)
+      (knows_right s final u look (columns_in a.wanted) (sorts ++ (a.distinct ++ need)) r.behind.shown)) in
       let has : Each (Has s u) need = has_needed s u fs [] each.0 tt in
       let outs : List OutTree = needed_outputs look need in
       let inner : SelectTree = list_rows s g u cs a n tie a.limit outs [] in
@@ -259,9 +259,9 @@ module _ (s : Schema) (g : Rights) (tables : List Table) (ok : FineTables s g ta
       let behind : Aliases = (fold_alias n, select_names inner tables scope) ∷ scope in
       let cells : (c : ℕ) → Has s u c → is_used c need ≡ true → kind_at behind (fold_alias n) (needed_name (place_of c need 0)) ≡ Some (kind_of s u c) =
       λ c has used. rw (same_text (fold_alias n))
-        (ap (λ ns. kind_named ns (needed_name (place_of c need 0))) (r.names a.limit outs)
-           ∙ (outputs_kind s u final look need c used each.2 ∙ shown c has used))
-        in
+      (ap (λ ns. kind_named ns (needed_name (place_of c need 0))) (r.names a.limit outs)
+      ∙ (outputs_kind s u final look need c used each.2 ∙ shown c has used))
+      in
       let pairs = summary_all s u n need behind cells fs each.0 (covers fs [] need (λ c h. h)) in
       let columns : List Column = (table s u).columns in
       let differ : all_differ bytes_eq (pair_names (pairs_of (summary_pairs columns n need fs))) ≡ true = ap (all_differ bytes_eq) (summary_names columns n need fs) ∙ each.1 in
@@ -276,11 +276,11 @@ module _ (s : Schema) (g : Rights) (tables : List Table) (ok : FineTables s g ta
       record { is = rw (differ, values) refl; shows = rw (same_text value_name) refl }
 
   pub summary_typed : (scope : Aliases) (u n : ℕ) (fs : List KeyedAggField) (a : ListArguments) (tie : PredTree) → Known s u
-    → FineArguments s u a → FineSummaries s u fs → n + summary_numbers fs s g u a ≤ 2 ^ 64
+      → FineArguments s u a → FineSummaries s u fs → n + summary_numbers fs s g u a ≤ 2 ^ 64
       → ((final : Aliases) → Behind s g tables ok scope u n (summary_used s u a fs) final → is_typed_pred tie tables final ≡ true)
-        → First tables scope (summary_select fs s g u a n tie) (Some well.json)
+      → First tables scope (summary_select fs s g u a n tie) (Some well.json)
   summary_typed scope u n fs a tie known fine each bound tied =
       let go : (b : Bool) → some_aggregate fs ≡ b → n + cond b (list_numbers s g u (summary_used s u a fs) a) 1 ≤ 2 ^ 64
-        → First tables scope (cond b (folded_select fs s g u a n tie) (plain_select fs s u n)) (Some well.json) =
+      → First tables scope (cond b (folded_select fs s g u a n tie) (plain_select fs s u n)) (Some well.json) =
       elim [ true ↦ λ e size. folded_typed scope u n fs a tie known fine each size tied | false ↦ λ e size. plain_typed scope u n fs each e ] in
       go (some_aggregate fs) refl bound

@@ -24,7 +24,7 @@ schema =
       name = codes "author";
       columns =
           record { name = codes "id"; ty = Integer; nullable = false } ∷ record { name = codes "name"; ty = Text; nullable = false }
-            ∷ record { name = codes "email"; ty = Text; nullable = true } ∷ [];
+          ∷ record { name = codes "email"; ty = Text; nullable = true } ∷ [];
       key = 0 ∷ [];
       rels = record { name = codes "articles"; remote = 1; pairs = record { own = 0; remote = 1 } ∷ []; many = true } ∷ [];
     }
@@ -33,7 +33,7 @@ schema =
       name = codes "article";
       columns =
           record { name = codes "id"; ty = Integer; nullable = false } ∷ record { name = codes "author_id"; ty = Integer; nullable = true }
-            ∷ record { name = codes "title"; ty = Text; nullable = false }
+          ∷ record { name = codes "title"; ty = Text; nullable = false }
           ∷ record { name = codes "published"; ty = Boolean; nullable = false } ∷ record { name = codes "rating"; ty = Bigint; nullable = true } ∷ [];
       key = 0 ∷ [];
       rels = record { name = codes "author"; remote = 0; pairs = record { own = 1; remote = 0 } ∷ []; many = false } ∷ [];
@@ -63,6 +63,6 @@ named =
 
 named_text : select_text (statement named schema (rights_of grants))
     ≡ codes
-      "SELECT json_build_object('author'::text, \"j1\".\"v\") AS \"v\" FROM (SELECT TRUE AS \"u\") AS \"t0\" LEFT JOIN LATERAL (SELECT COALESCE(json_agg(\"s1\".\"v\" ORDER BY \"s1\".\"o0\" ASC NULLS LAST), '[]'::json) AS \"v\" FROM (SELECT json_build_object('id'::text, \"t1\".\"id\", 'name'::text, \"t1\".\"name\") AS \"v\", \"t1\".\"id\" AS \"o0\" FROM \"public\".\"author\" AS \"t1\" WHERE (\"t1\".\"name\" COLLATE \"C\" = 'O''Hara'::text) ORDER BY \"t1\".\"id\" ASC NULLS LAST) AS \"s1\") AS \"j1\" ON TRUE"
+    "SELECT json_build_object('author'::text, \"j1\".\"v\") AS \"v\" FROM (SELECT TRUE AS \"u\") AS \"t0\" LEFT JOIN LATERAL (SELECT COALESCE(json_agg(\"s1\".\"v\" ORDER BY \"s1\".\"o0\" ASC NULLS LAST), '[]'::json) AS \"v\" FROM (SELECT json_build_object('id'::text, \"t1\".\"id\", 'name'::text, \"t1\".\"name\") AS \"v\", \"t1\".\"id\" AS \"o0\" FROM \"public\".\"author\" AS \"t1\" WHERE (\"t1\".\"name\" COLLATE \"C\" = 'O''Hara'::text) ORDER BY \"t1\".\"id\" ASC NULLS LAST) AS \"s1\") AS \"j1\" ON TRUE"
 unfolding table_alias fold_alias join_alias value_name key_name needed_name unit_name digits quoted word_text
 named_text = refl

@@ -34,7 +34,7 @@ answers tables database rows text s answer spelled typed within pinned alike is 
     let own : HasRows s tables rows d = λ t scanned. below_at rows (length tables) t (within t scanned) in
     let value = meaning s (record { tables = tables; database = d }) in
     let meant : (o : Option (List (List Row))) → ((t : ℕ) → scans s tables t ≡ true → IfSome o (λ all. rows t ≡ slice_index_or all t []))
-      → IfSome o (λ all. value ≡ meaning s (record { tables = tables; database = all })) =
+    → IfSome o (λ all. value ≡ meaning s (record { tables = tables; database = all })) =
     elim [
       | None ↦ λ p. tt
       | Some all ↦ λ p. alike d all (λ t scanned. own t scanned ∙ p t scanned)

@@ -78,11 +78,11 @@ impl<T: Tables> Database for SqlDb<T> {
         // What the trait says.
         ensures failed { IfErr result (λ e. TellsFailure (⟦<SqlDb<T> as Database>⟧.faults self.old) (⟦<SqlDb<T> as Database>⟧.faults self.new) e) }
         ensures asked { Asked (⟦<SqlDb<T> as Database>⟧.asks self.old) (⟦<SqlDb<T> as Database>⟧.asks self.new) (⟦<SqlDb<T> as Database>⟧.last self.new)
-                text.now
-              ⊎
-                ((result ≡ Err DbRefusal.Memory)
-                   × NotAsked (⟦<SqlDb<T> as Database>⟧.asks self.old) (⟦<SqlDb<T> as Database>⟧.asks self.new)
-                     (⟦<SqlDb<T> as Database>⟧.last self.old) (⟦<SqlDb<T> as Database>⟧.last self.new)) }
+            text.now
+            ⊎
+            ((result ≡ Err DbRefusal.Memory)
+            × NotAsked (⟦<SqlDb<T> as Database>⟧.asks self.old) (⟦<SqlDb<T> as Database>⟧.asks self.new)
+            (⟦<SqlDb<T> as Database>⟧.last self.old) (⟦<SqlDb<T> as Database>⟧.last self.new)) }
         ensures answered { IfOk result (λ answer. Answered (⟦<SqlDb<T> as Database>⟧.tables self.old) (⟦<SqlDb<T> as Database>⟧.database self.old) text.now answer) }
         ensures not_sql { result ≡ Err DbRefusal.NotSql → (s : SelectTree) → Spells text.now s → ⊥ }
         ensures not_typed { result ≡ Err DbRefusal.NotTyped → NotFitting (⟦<SqlDb<T> as Database>⟧.tables self.old) text.now }

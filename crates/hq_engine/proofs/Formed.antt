@@ -14,7 +14,7 @@ use Rattle.hq_terms.specs.declared.session.Session.{Session}
 use Rattle.hq_terms.specs.declared.table.Table.{Table}
 
 pub formed : (tables : List Table) (meta : MetaTree) (session : Session) (body : List ℕ)
-  → ((ask : AskTree) → MakesFormed tables meta session body ask) → is_catalog tables ≡ true → fits tables meta ≡ true
+    → ((ask : AskTree) → MakesFormed tables meta session body ask) → is_catalog tables ≡ true → fits tables meta ≡ true
     → (r : Result Ask RequestRefusal) → Gives ask_view Memory (request_due tables meta session body) r → IfOk r (λ ask. IsOfSession tables meta session (ask_view ask))
 formed tables meta session body law catalog fit (Ok ask) gives = law (ask_view ask) catalog fit gives
 formed tables meta session body law catalog fit (Err e) gives = tt

@@ -21,10 +21,10 @@ use Rattle.hq_engine.specs.Statements.{IsMeaning, IsStatement}
 module _ (tables : List Table) (meta : MetaTree) (ask : AskTree) where
   -- a text that is asked is that of the statement, and a root field starts at a table
   pub text_there : (o : Option (List ℕ)) (text : List ℕ) → o ≡ statement_text tables meta ask → o ≡ Some text
-    → (has_table_field ask.fields ≡ true) × (text ≡ select_text (asked_statement tables meta ask))
+      → (has_table_field ask.fields ≡ true) × (text ≡ select_text (asked_statement tables meta ask))
   text_there o text asked h =
       let go : (b : Bool) → has_table_field ask.fields ≡ b → cond b (Some (select_text (asked_statement tables meta ask))) None ≡ Some text
-        → (has_table_field ask.fields ≡ true) × (text ≡ select_text (asked_statement tables meta ask)) =
+      → (has_table_field ask.fields ≡ true) × (text ≡ select_text (asked_statement tables meta ask)) =
       elim [
         | true ↦ λ is e. let same : select_text (asked_statement tables meta ask) ≡ text = cc in (is, sym same)
         | false ↦ λ is e. absurd cc
@@ -32,7 +32,7 @@ module _ (tables : List Table) (meta : MetaTree) (ask : AskTree) where
       go (has_table_field ask.fields) refl (sym asked ∙ h)
 
 module _ (tables : List Table) (meta : MetaTree) (session : Session) (ask : AskTree)
-  (resolved : (d : List (List Row)) → IsResolved (schema_of tables meta) (grants_of session tables meta) d ask.fields) where
+    (resolved : (d : List (List Row)) → IsResolved (schema_of tables meta) (grants_of session tables meta) d ask.fields) where
   -- the object of the root fields that start at a table, over a database
   abbrev pub table_due : List (List Row) → JsonTree
   table_due d = table_object (of_database (schema_of tables meta) (grants_of session tables meta) d) ask.fields
@@ -45,7 +45,7 @@ module _ (tables : List Table) (meta : MetaTree) (session : Session) (ask : AskT
 
   -- the same over the tables of the database, and the text as it was asked
   pub gives_over : (own : List Table) (text : List ℕ) (database : Option (List (List Row))) (answer : Answer) → own ≡ tables
-    → text ≡ select_text (asked_statement tables meta ask) → IsStatement tables meta session ask
+      → text ≡ select_text (asked_statement tables meta ask) → IsStatement tables meta session ask
       → IfSome database (λ d. is_database own d ≡ true) → IfSome database (IsMeaning own text answer) → IfSome database (λ d. IsAnswer answer (table_due d))
   gives_over own text database answer same spelled is fits has =
       gives database answer is (subst (λ ts. IfSome database (λ d. is_database ts d ≡ true)) same fits)

@@ -42,8 +42,8 @@ module _ (schema : SchemaTree) (s : Schema) (g : Grants) (d e : List (List Row))
   members_agree no_field h = refl
   members_agree (field key f fs) h =
       let same =
-          first_same key key (of_database s g d f) (of_database s g e f) (resolve_all fs s (limits g) (seen_by s g d) (length s) [])
-            (resolve_all fs s (limits g) (seen_by s g e) (length s) []) h in
+      first_same key key (of_database s g d f) (of_database s g e f) (resolve_all fs s (limits g) (seen_by s g d) (length s) [])
+      (resolve_all fs s (limits g) (seen_by s g e) (length s) []) h in
       ap (λ v. member key (unwrap_or (own_value schema f) v) (root_members schema (of_database s g d) fs)) same.0
       ∙ ap (member key (unwrap_or (own_value schema f) (of_database s g e f))) (members_agree fs same.1)
 
@@ -53,7 +53,7 @@ module _ (schema : SchemaTree) (s : Schema) (g : Grants) (d e : List (List Row))
 module _ (tables : List Table) (meta : MetaTree) (session : Session) (body : List ℕ) where
   -- what a body makes is answered alike over them
   made_agree : (d e : List (List Row)) (made : Result AskTree RequestRefusal)
-    → ((ask : AskTree) → made ≡ Ok ask → IsOfSession tables meta session ask) → ((ask : AskTree) → WorldsAgree tables meta session ask d e)
+      → ((ask : AskTree) → made ≡ Ok ask → IsOfSession tables meta session ask) → ((ask : AskTree) → WorldsAgree tables meta session ask d e)
       → Agree (schema_of tables meta) (grants_of session tables meta) d e → reply_to tables meta session d made ≡ reply_to tables meta session e made
   made_agree d e (Ok ask) formed worlds agree =
       let is = formed ask refl in
@@ -63,7 +63,7 @@ module _ (tables : List Table) (meta : MetaTree) (session : Session) (body : Lis
   made_agree d e (Err Memory) formed worlds agree = refl
 
   pub replies_agree : (d e : List (List Row)) → ((ask : AskTree) → MakesFormed tables meta session body ask)
-    → ((ask : AskTree) → WorldsAgree tables meta session ask d e) → RepliesAgree tables meta session body d e
+      → ((ask : AskTree) → WorldsAgree tables meta session ask d e) → RepliesAgree tables meta session body d e
   replies_agree d e formed worlds catalog fit agree =
       made_agree d e (request_due tables meta session body) (λ ask made. formed ask catalog fit made) worlds agree
 

@@ -10,7 +10,7 @@ use Rattle.hq_filter_read.specs.Each.{each_member}
 use Rattle.hq_filter_read.specs.Operator.{operator_named}
 
 pub of_object : (c : ℕ) (ty : Ty) (path : List ℕ) (j : JsonTree) (ms : List (List ℕ × JsonTree)) → object_in j ≡ Some ms
-  → column_due c ty path j ≡ mapped conjunction (each_member (λ name p. condition_due c ty p (operator_named name)) path ms)
+    → column_due c ty path j ≡ mapped conjunction (each_member (λ name p. condition_due c ty p (operator_named name)) path ms)
 of_object c ty path null ms e = cc
 of_object c ty path (bool b) ms e = cc
 of_object c ty path (int n) ms e = cc

@@ -12,9 +12,9 @@ use Rattle.hq_filter_read.proofs.Members.{grown}
 -- the element at a place is read, and the loop goes on behind it
 pub each_element-more : {A V B E : Type 0} (view : A → V) (read : List ℕ → V → Result B E) (path p : List ℕ) (xs : List A) (i : ℕ) (x : A)
     (done more : List B) (y : B) (whole : Result (List B) E)
-  → whole ≡ mapped (λ ys. done ++ ys) (each_element read path i (map view (drop i xs))) → i < length xs → x ≡ get_or xs i x
-  → p ≡ item_path path i → read p (view x) ≡ Ok y → more ≡ done ++ y ∷ []
-  → whole ≡ mapped (λ ys. more ++ ys) (each_element read path (i + 1) (map view (drop (i + 1) xs)))
+    → whole ≡ mapped (λ ys. done ++ ys) (each_element read path i (map view (drop i xs))) → i < length xs → x ≡ get_or xs i x
+    → p ≡ item_path path i → read p (view x) ≡ Ok y → more ≡ done ++ y ∷ []
+    → whole ≡ mapped (λ ys. more ++ ys) (each_element read path (i + 1) (map view (drop (i + 1) xs)))
 each_element-more view read path p xs i x done more y whole so_far below is at given grows =
     let rest = each_element read path (i + 1) (map view (drop (i + 1) xs)) in
     so_far
@@ -26,9 +26,9 @@ each_element-more view read path p xs i x done more y whole so_far below is at g
 -- the member at a place is read, and the loop goes on behind it
 pub each_member-more : {B E : Type 0} (read : (name path : List ℕ) → JsonTree → Result B E) (path p : List ℕ) (ms : List Member) (i : ℕ)
     (m : Member) (done more : List B) (y : B) (whole : Result (List B) E)
-  → whole ≡ mapped (λ ys. done ++ ys) (each_member read path (map member_view (drop i ms))) → i < length ms → m ≡ get_or ms i m
-  → p ≡ member_path path m.name → read m.name p (json_view m.value) ≡ Ok y → more ≡ done ++ y ∷ []
-  → whole ≡ mapped (λ ys. more ++ ys) (each_member read path (map member_view (drop (i + 1) ms)))
+    → whole ≡ mapped (λ ys. done ++ ys) (each_member read path (map member_view (drop i ms))) → i < length ms → m ≡ get_or ms i m
+    → p ≡ member_path path m.name → read m.name p (json_view m.value) ≡ Ok y → more ≡ done ++ y ∷ []
+    → whole ≡ mapped (λ ys. more ++ ys) (each_member read path (map member_view (drop (i + 1) ms)))
 each_member-more read path p ms i m done more y whole so_far below is at given grows =
     let rest = each_member read path (map member_view (drop (i + 1) ms)) in
     so_far

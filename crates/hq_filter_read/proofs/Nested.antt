@@ -93,8 +93,8 @@ member_within tree.no_member name v e = cc
 member_within (tree.member k j ms) name v e = by (bytes_eq k name) e (member_within ms name v)
   where
     by : (b : Bool) → cond b (Some j) (lookup (λ n. bytes_eq n name) (member_list ms)) ≡ Some v
-      → (lookup (λ n. bytes_eq n name) (member_list ms) ≡ Some v → nesting v ≤ nesting_of_members ms)
-      → nesting v ≤ nesting_of_members (tree.member k j ms)
+        → (lookup (λ n. bytes_eq n name) (member_list ms) ≡ Some v → nesting v ≤ nesting_of_members ms)
+        → nesting v ≤ nesting_of_members (tree.member k j ms)
     by true h rest = let same : j ≡ v = cc in subst (λ x. nesting x ≤ nesting_of_members (tree.member k j ms)) same (omega arith)
     by false h rest = omega (arith, rest h)
 

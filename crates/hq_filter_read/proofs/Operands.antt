@@ -33,7 +33,7 @@ second false b h = cc
 
 -- a constant of a number that passes a test
 number_fits : (ty : Ty) (wanted : Want) (n : ℤ) (b : Bool) → (b ≡ true → int_fits ty n ≡ true)
-  → IfSome (result_ok (ok_or (option_map val.Int (cond b (Some n) None)) wanted)) (λ v. constant_fits ty v ≡ true)
+    → IfSome (result_ok (ok_or (option_map val.Int (cond b (Some n) None)) wanted)) (λ v. constant_fits ty v ≡ true)
 number_fits ty wanted n true h = h refl
 number_fits ty wanted n false h = tt
 
@@ -58,7 +58,7 @@ pattern_read s = by (is_ok (pattern_of s)) refl
 
 -- a session variable, or else a constant that passes a test
 either_fits : (Fits : Operand → Type 0) (variable : Option (List ℕ)) (value : Option Val) → ((name : List ℕ) → Fits (Session name))
-  → IfSome value (λ v. Fits (Const v)) → IfSome (option_or (option_map Session variable) (option_map Const value)) Fits
+    → IfSome value (λ v. Fits (Const v)) → IfSome (option_or (option_map Session variable) (option_map Const value)) Fits
 either_fits Fits (Some name) value h k = h name
 either_fits Fits None (Some v) h k = k
 either_fits Fits None None h k = tt

@@ -111,8 +111,8 @@ condition_good s t c ty here path (Some (Like fold negated)) j = like_good s t c
 
 -- the conditions of members that are each read as a good one
 each_good : (s : Schema) (t : ℕ) (read : List ℕ → List ℕ → JsonTree → Result BexpTree FilterRefusal)
-  → ((name path : List ℕ) (j : JsonTree) → IfOk (read name path j) (Good 1 s t)) → (path : List ℕ) (ms : List (List ℕ × JsonTree))
-  → IfOk (each_member read path ms) (AllGood 1 s t)
+    → ((name path : List ℕ) (j : JsonTree) → IfOk (read name path j) (Good 1 s t)) → (path : List ℕ) (ms : List (List ℕ × JsonTree))
+    → IfOk (each_member read path ms) (AllGood 1 s t)
 each_good s t read good path [] = none_good 1 s t
 each_good s t read good path (m ∷ ms) =
     ok_and_then (λ b. mapped (λ bs. b ∷ bs) (each_member read path ms)) (AllGood 1 s t) (Good 1 s t)
@@ -132,7 +132,7 @@ column_good s t c ty here path (int n) = comparison_good s t c ty here Eq path (
 column_good s t c ty here path (str x) = comparison_good s t c ty here Eq path (str x)
 column_good s t c ty here path (arr js) =
     ok_weaker (comparison_due c ty Eq path (arr js)) (Good 1 s t) (Good (suc (2 * nesting (arr js))) s t)
-      (λ b h. good_more 1 (suc (2 * nesting (arr js))) s t b (omega arith) h) (comparison_good s t c ty here Eq path (arr js))
+    (λ b h. good_more 1 (suc (2 * nesting (arr js))) s t b (omega arith) h) (comparison_good s t c ty here Eq path (arr js))
 
 -- the type of a column that is there
 type_there : (s : Schema) (t c : ℕ) → is_some (slice_get (table s t).columns c) ≡ true → column_ty s t c ≡ Some (column s t c).ty
@@ -145,8 +145,8 @@ type_there s t c h = by (slice_get (table s t).columns c) refl h
 -- a member whose value is good, as what it names
 member_good : (filter : ℕ → Result BexpTree FilterRefusal) (list : Result (List BexpTree) FilterRefusal) (j : JsonTree) (s : Schema) (t : ℕ)
     (path : List ℕ)
-  → ((u : ℕ) → IfOk (filter u) (Good (2 * nesting j) s u)) → IfOk list (AllGood (2 * nesting j) s t) → (n : Option Named)
-  → IsThere (table s t) n → IfOk (member_due filter list j s t path n) (Good (suc (2 * nesting j)) s t)
+    → ((u : ℕ) → IfOk (filter u) (Good (2 * nesting j) s u)) → IfOk list (AllGood (2 * nesting j) s t) → (n : Option Named)
+    → IsThere (table s t) n → IfOk (member_due filter list j s t path n) (Good (suc (2 * nesting j)) s t)
 member_good filter list j s t path h hs None there = tt
 member_good filter list j s t path h hs (Some And) there =
     ok_mapped (λ bs. and_of (bexps_of bs)) (Good (suc (2 * nesting j)) s t) (AllGood (2 * nesting j) s t) (λ bs k. record { is = k.are; shallow = omega (arith, k.shallow) }) list hs
@@ -205,4 +205,4 @@ mutual
       (members_due ms s t path) (members_good ms s t path))
       (member_due (λ remote. filter_due j s remote here) (filters_due j s t here) j s t here (named (table s t) name))
       (member_good (λ remote. filter_due j s remote here) (filters_due j s t here) j s t here (λ u. filter_good j s u here)
-         (filters_good j s t here) (named (table s t) name) (named_there (table s t) name))
+      (filters_good j s t here) (named (table s t) name) (named_there (table s t) name))

@@ -16,7 +16,7 @@ use Rattle.hq_filter_read.specs.Named.{named}
 -- The expression of a member at a path, by what it names: `filter` is its value read as a filter over a table, and
 -- `list` its value read as a list of filters over table t. UnknownColumn where it names nothing.
 abbrev pub member_due : (filter : ℕ → Result BexpTree FilterRefusal) (list : Result (List BexpTree) FilterRefusal) → JsonTree → Schema
-  → (t : ℕ) (path : List ℕ) → Option Named → Result BexpTree FilterRefusal
+    → (t : ℕ) (path : List ℕ) → Option Named → Result BexpTree FilterRefusal
 member_due filter list j s t path None = Err (UnknownColumn path)
 member_due filter list j s t path (Some And) = mapped (λ bs. and_of (bexps_of bs)) list
 member_due filter list j s t path (Some Or) = mapped (λ bs. or_of (bexps_of bs)) list

@@ -141,9 +141,9 @@ fn member_bexp(
     json: &Json,
 ) -> Result<Bexp, FilterRefusal>
     ensures { let s = scope_schema scope.now in Gives bexp_view FilterRefusal.Memory
-          (member_due (λ remote. filter_due (json_view json.now) s remote path.now) (filters_due (json_view json.now) s t path.now)
-             (json_view json.now) s t path.now (named (table s t) name.now))
-          result }
+        (member_due (λ remote. filter_due (json_view json.now) s remote path.now) (filters_due (json_view json.now) s t path.now)
+        (json_view json.now) s t path.now (named (table s t) name.now))
+        result }
 {
     let Some(named) = named_by(scope, t, name) else {
         return Err(unknown_column(alloc, path));

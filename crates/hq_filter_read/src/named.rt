@@ -84,8 +84,8 @@ fn rel_named(scope: &Scope, t: TableId, name: &Txt) -> Option<RelId>
 // The column or relationship of this name.
 fn part_named(scope: &Scope, t: TableId, name: &Txt) -> Option<Named>
     ensures { result
-          ≡ option_or (option_map Named.Column (column_named (table (scope_schema scope.now) t) name.now))
-            (option_map Named.Relationship (rel_named (table (scope_schema scope.now) t) name.now)) }
+        ≡ option_or (option_map Named.Column (column_named (table (scope_schema scope.now) t) name.now))
+        (option_map Named.Relationship (rel_named (table (scope_schema scope.now) t) name.now)) }
 {
     match column_named(scope, t, name) {
         Some(column) => Some(Named::Column(column)),

@@ -72,9 +72,9 @@ article_fits authors i some few number_few =
     let below : (i * 31) % authors < authors = mod_below (i * 31) authors (omega (arith, some)) in
     let digit : i % 10 < 10 = mod_below i 10 (omega arith) in
     five _ _ _ _ _ (small i number_few)
-      (nullable_fits (column_of (codes "author_id") Integer true) ((i % 7) == 0) (number ((i * 31) % authors + 1)) refl
-         (small ((i * 31) % authors + 1) (omega (arith, below, few))))
-      refl refl
+    (nullable_fits (column_of (codes "author_id") Integer true) ((i % 7) == 0) (number ((i * 31) % authors + 1)) refl
+    (small ((i * 31) % authors + 1) (omega (arith, below, few))))
+    refl refl
     (nullable_fits (column_of (codes "rating") Bigint true) ((i % 5) == 0) (number (i % 10)) refl (small_wide (i % 10) (omega (arith, digit))))
 
 pub authors_valid : (authors : ℕ) → authors ≤ 100000 → are_rows author_table (rows_to author_row authors) ≡ true

@@ -47,8 +47,8 @@ open_more at k bytes rest is_open more cut open_yet e on h =
       within = omega (arith, len, h some);
       so_far = sym (option_map-add at k (at + k) (block_len 0 (drop (at + k) bytes)) refl)
           ∙ ap (option_map (λ n. at + n))
-            (ap (λ bs. option_map (λ n. k + n) (block_len 0 bs)) (sym (drop-drop k at bytes) ∙ ap (drop k) (sym same))
-               ∙ ap (λ j. option_map (λ n. j + n) (block_len 0 (drop j rest))) e ∙ sym one ∙ ap (block_len 0) same)
+          (ap (λ bs. option_map (λ n. k + n) (block_len 0 bs)) (sym (drop-drop k at bytes) ∙ ap (drop k) (sym same))
+          ∙ ap (λ j. option_map (λ n. j + n) (block_len 0 (drop j rest))) e ∙ sym one ∙ ap (block_len 0) same)
           ∙ is_open.so_far;
     }
 

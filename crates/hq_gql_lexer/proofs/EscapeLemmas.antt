@@ -36,7 +36,7 @@ plain_len_over p inner [] bytes h = option_map-zero (plain_len false bytes)
 plain_len_over p inner (b ∷ front) bytes h =
     let ok = and_parts (p b) (list_all p front) h in
     plain_len_inner b (front ++ bytes) (inner b ok.0) ∙ ap (option_map (λ n. 1 + n)) (plain_len_over p inner front bytes ok.1)
-      ∙ option_map-add 1 (length front) (suc (length front)) (plain_len false bytes) (omega arith)
+    ∙ option_map-add 1 (length front) (suc (length front)) (plain_len false bytes) (omega arith)
 
 -- the byte after a `\` is passed over, where it ends no line
 pub plain_len_taken : (b : ℕ) (bytes : List ℕ) → is_line_end b ≡ false → plain_len true (b ∷ bytes) ≡ option_map (λ n. 1 + n) (plain_len false bytes)

@@ -174,8 +174,8 @@ plain_parts (suc m) at inside after value h is (ascii b rest one utf8) =
     } in
     let inner = plain_parts m (at + 1) rest after step.others (omega arith) next (text_parts rest utf8) in
     let built : IsPlainRest (encode b ++ (rest ++ 34 ∷ [])) (encode b ++ step.others) =
-        character b (rest ++ 34 ∷ []) step.others (low_scalar b (omega arith), src.0) (apart b 34 first.no_quote) (apart b 92 other)
-          first.no_end inner in
+    character b (rest ++ 34 ∷ []) step.others (low_scalar b (omega arith), src.0) (apart b 34 first.no_quote) (apart b 92 other)
+    first.no_end inner in
     let same = encode_ascii b one in
     subst (λ front. IsPlainRest (front ++ (rest ++ 34 ∷ [])) value) same
     (subst (IsPlainRest _) (ap (λ front. front ++ step.others) (same ∙ src.1) ∙ step.whole) built))
@@ -192,7 +192,7 @@ plain_parts (suc m) at inside after value h is (wide c rest scalar more utf8) =
     let shorter : length rest < m = omega (arith, length-append (encode c) rest, length-encode_some c) in
     let inner = plain_parts m _ rest after cp.others shorter next (text_parts rest utf8) in
     let built : IsPlainRest (encode c ++ (rest ++ 34 ∷ [])) (encode c ++ cp.others) =
-        character c (rest ++ 34 ∷ []) cp.others (scalar, wide_source c more) (omega arith) (omega arith) (wide_no_end c more) inner in
+    character c (rest ++ 34 ∷ []) cp.others (scalar, wide_source c more) (omega arith) (omega arith) (wide_no_end c more) inner in
     subst (λ t. IsPlainRest t value) (sym (append_assoc (encode c) rest (34 ∷ []))) (subst (IsPlainRest _) cp.whole built)
 
 -- what is between the quotes and behind them

@@ -147,7 +147,7 @@ token_sound at bytes k n h = ⊎_elim
     (λ (punct : (p : Punct × ℕ) × (punct_at bytes ≡ Some p) × ((kind.Punct p.0, p.1) ≡ (k, n))).
     same_token bytes (kind.Punct punct.0.0, punct.0.1) (k, n) punct.2 (punct_sound bytes punct.0.0 punct.0.1 punct.1))
     (λ
-      (other : cond (starts_number bytes) (number_at at bytes) (cond (next_is (λ b. b == 34) bytes) (string_at at bytes) (cond (next_is is_name_start bytes) (name_at bytes) (Err (BadByte at)))) ≡ Ok (k, n)).
+    (other : cond (starts_number bytes) (number_at at bytes) (cond (next_is (λ b. b == 34) bytes) (string_at at bytes) (cond (next_is is_name_start bytes) (name_at bytes) (Err (BadByte at)))) ≡ Ok (k, n)).
     ⊎_elim
     (λ (number : (starts_number bytes ≡ true) × (number_at at bytes ≡ Ok (k, n))). number_sound at bytes k n number.0 number.1)
     (λ (rest : (starts_number bytes ≡ false) × (cond (next_is (λ b. b == 34) bytes) (string_at at bytes) (cond (next_is is_name_start bytes) (name_at bytes) (Err (BadByte at))) ≡ Ok (k, n))).

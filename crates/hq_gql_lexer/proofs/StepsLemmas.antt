@@ -28,7 +28,7 @@ steps_skip step (suc k) at (b ∷ bytes) h =
 
 -- the bytes behind the first one are passed over like any others
 pub steps_from : {X : Type 0} (step : Step (List X)) (n at : ℕ) (b : ℕ) (bytes : List ℕ) → 0 < n → n ≤ length (b ∷ bytes)
-  → steps step (n - 1) (at + 1) bytes ≡ steps step 0 (at + n) (drop n (b ∷ bytes))
+    → steps step (n - 1) (at + 1) bytes ≡ steps step 0 (at + n) (drop n (b ∷ bytes))
 steps_from step zero at b bytes some h = absurd (omega arith)
 steps_from step (suc n) at b bytes some h =
     ap (λ k. steps step k (at + 1) bytes) (omega arith) ∙ steps_skip step n (at + 1) bytes (omega arith) ∙ ap (λ k. steps step 0 k (drop n bytes)) (omega arith)

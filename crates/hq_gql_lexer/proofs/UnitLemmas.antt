@@ -35,7 +35,7 @@ no_second_unit bytes high read is_high second = let behind = second ∙ ap unit_
 
 -- a high surrogate and a low one
 pub two_units : (bytes : List ℕ) (high low c : ℕ) → Some high ≡ unit_at bytes → is_high_surrogate high ≡ true
-  → Some low ≡ unit_at (take (length bytes - 6) (drop 6 bytes)) → is_low_surrogate low ≡ true
+    → Some low ≡ unit_at (take (length bytes - 6) (drop 6 bytes)) → is_low_surrogate low ≡ true
     → c ≡ surrogate_pair_char high low → Some (c, 12) ≡ unicode_escape bytes
 unfolding unicode_escape
 two_units bytes high low c read is_high second is_low is = let behind = second ∙ ap unit_at (behind_unit bytes) in rw (← read, is_high, ← behind, is_low) (ap (λ n. Some (n, 12)) is)

@@ -12,7 +12,7 @@ one_more places i p below is = take_more places i 0 below ∙ ap (λ x. take i p
 
 -- the list has grown by the places so far, and by one more
 pub adds_more : (count : ℕ) (places : List ℕ) (i p : ℕ) (first old new : List ℕ) → i < length places → p ≡ get_or places i 0
-  → Adds count (take i places) first old → Adds count (p ∷ []) old new → Adds count (take (i + 1) places) first new
+    → Adds count (take i places) first old → Adds count (p ∷ []) old new → Adds count (take (i + 1) places) first new
 adds_more count places i p first old new below is before now =
     subst (λ (taken : List ℕ). Adds count taken first new) (sym (one_more places i p below is)) (record {
       more = before.more ++ now.more;
@@ -25,8 +25,8 @@ adds_more count places i p first old new below is before now =
 
 -- the places so far stand in the list, and one more
 pub marked_more : (count : ℕ) (places : List ℕ) (i p : ℕ) (old new : List ℕ) → i < length places → p ≡ get_or places i 0
-  → Adds count (p ∷ []) old new → (p < count → has new p ≡ true) → ((q : ℕ) → Among count (take i places) q → has old q ≡ true) → (q : ℕ)
-  → Among count (take (i + 1) places) q → has new q ≡ true
+    → Adds count (p ∷ []) old new → (p < count → has new p ≡ true) → ((q : ℕ) → Among count (take i places) q → has old q ≡ true) → (q : ℕ)
+    → Among count (take (i + 1) places) q → has new q ≡ true
 marked_more count places i p old new below is adds here before q a =
     let among : has (take i places ++ p ∷ []) q ≡ true = subst (λ (taken : List ℕ). has taken q ≡ true) (one_more places i p below is) a.1 in
     (elim (has_either (take i places) (p ∷ []) q among) [

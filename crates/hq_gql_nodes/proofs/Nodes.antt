@@ -5,8 +5,8 @@ use Rattle.hq_base.proofs.Loops.{next_item}
 
 -- a loop has added the nodes of one more item, where F gives those of a list
 pub item_added : {A B : Type 0} (F : List A → List B) (xs : List A) (i : ℕ) (x : A) (here done more whole : List B)
-  → done ++ F (drop i xs) ≡ whole → i < length xs → x ≡ get_or xs i x → F (x ∷ drop (i + 1) xs) ≡ here ++ F (drop (i + 1) xs)
-  → more ≡ done ++ here → more ++ F (drop (i + 1) xs) ≡ whole
+    → done ++ F (drop i xs) ≡ whole → i < length xs → x ≡ get_or xs i x → F (x ∷ drop (i + 1) xs) ≡ here ++ F (drop (i + 1) xs)
+    → more ≡ done ++ here → more ++ F (drop (i + 1) xs) ≡ whole
 item_added F xs i x here done more whole so_far below is joins grows =
     ap (λ ns. ns ++ F (drop (i + 1) xs)) grows
     ∙ append_assoc done here (F (drop (i + 1) xs))

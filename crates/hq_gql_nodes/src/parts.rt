@@ -43,9 +43,9 @@ fn add_default<'a>(
     place: Option<Place<'a>>,
 ) -> Result<(), Memory>
     ensures { OnOk result
-          (map node_view nodes.new.items
-             ≡ map node_view nodes.old.items
-               ++ default_nodes (schema_view schema.now) (option_map place_view place.entry) (option_map placed_view default.now)) }
+        (map node_view nodes.new.items
+        ≡ map node_view nodes.old.items
+        ++ default_nodes (schema_view schema.now) (option_map place_view place.entry) (option_map placed_view default.now)) }
 {
     match default {
         Some(value) => add_value(&mut *nodes, schema, value, place),

@@ -70,9 +70,9 @@ fn add_field<'a>(
     parent: Option<usize>,
 ) -> Result<(), Memory>
     ensures { OnOk result
-          (map node_view nodes.new.items
-             ≡ map node_view nodes.old.items
-               ++ selection_nodes (schema_view schema.now) parent (field_tree (field_view field.now).0 (field_view field.now).1)) }
+        (map node_view nodes.new.items
+        ≡ map node_view nodes.old.items
+        ++ selection_nodes (schema_view schema.now) parent (field_tree (field_view field.now).0 (field_view field.now).1)) }
 {
     nodes.push(Node::Field(field, parent))?;
     add_field_head(&mut *nodes, schema, field, parent)?;
@@ -88,9 +88,9 @@ fn add_inline<'a>(
     parent: Option<usize>,
 ) -> Result<(), Memory>
     ensures { OnOk result
-          (map node_view nodes.new.items
-             ≡ map node_view nodes.old.items
-               ++ selection_nodes (schema_view schema.now) parent (inline_tree (inline_view inline.now).0 (inline_view inline.now).1)) }
+        (map node_view nodes.new.items
+        ≡ map node_view nodes.old.items
+        ++ selection_nodes (schema_view schema.now) parent (inline_tree (inline_view inline.now).0 (inline_view inline.now).1)) }
 {
     nodes.push(Node::Inline(inline, parent))?;
     add_inline_head(&mut *nodes, schema, inline)?;
@@ -131,9 +131,9 @@ pub fn add_selections<'a>(
     parent: Option<usize>,
 ) -> Result<(), Memory>
     ensures { OnOk result
-          (map node_view nodes.new.items
-             ≡ map node_view nodes.old.items
-               ++ selections_nodes (schema_view schema.now) parent (selections_of (map selection_view selections.now.items))) }
+        (map node_view nodes.new.items
+        ≡ map node_view nodes.old.items
+        ++ selections_nodes (schema_view schema.now) parent (selections_of (map selection_view selections.now.items))) }
 {
     for selection in selections {
         add_selection(&mut *nodes, schema, selection, parent)?;

@@ -55,10 +55,10 @@ fn add_elements<'a>(
     place: Option<Place<'a>>,
 ) -> Result<(), Memory>
     ensures { OnOk result
-          (map node_view nodes.new.items
-             ≡ map node_view nodes.old.items
-               ++ elements_nodes (schema_view schema.now) (option_map place_view place.entry)
-                 (elements_of (map placed_view elements.now.items))) }
+        (map node_view nodes.new.items
+        ≡ map node_view nodes.old.items
+        ++ elements_nodes (schema_view schema.now) (option_map place_view place.entry)
+        (elements_of (map placed_view elements.now.items))) }
 {
     for element in elements {
         add_value(&mut *nodes, schema, element, place)?;
@@ -103,10 +103,10 @@ fn add_argument<'a>(
     args: Option<&'a ArgDefList>,
 ) -> Result<(), Memory>
     ensures { OnOk result
-          (map node_view nodes.new.items
-             ≡ map node_view nodes.old.items
-               ++ argument_nodes (schema_view schema.now) (option_map (λ defs. map arg_view defs.now) args.entry)
-                 (argument_view argument.now)) }
+        (map node_view nodes.new.items
+        ≡ map node_view nodes.old.items
+        ++ argument_nodes (schema_view schema.now) (option_map (λ defs. map arg_view defs.now) args.entry)
+        (argument_view argument.now)) }
 {
     nodes.push(Node::Argument(argument, args))?;
     let place = arg_place(args, &argument.name);
@@ -121,10 +121,10 @@ pub fn add_arguments<'a>(
     args: Option<&'a ArgDefList>,
 ) -> Result<(), Memory>
     ensures { OnOk result
-          (map node_view nodes.new.items
-             ≡ map node_view nodes.old.items
-               ++ arguments_nodes (schema_view schema.now) (option_map (λ defs. map arg_view defs.now) args.entry)
-                 (map argument_view arguments.now.items)) }
+        (map node_view nodes.new.items
+        ≡ map node_view nodes.old.items
+        ++ arguments_nodes (schema_view schema.now) (option_map (λ defs. map arg_view defs.now) args.entry)
+        (map argument_view arguments.now.items)) }
 {
     for argument in arguments {
         add_argument(&mut *nodes, schema, argument, args)?;

@@ -4,8 +4,8 @@ use Rattle.hq_gql_lexer.specs.declared.token.Token.{Token}
 use Rattle.hq_gql_parser.specs.Documents.{and_then, left_behind, brackets_left}
 
 step_append : (m : Option ℕ) (a b : List Token)
-  → ((n : ℕ) → brackets_left n (a ++ b) ≡ and_then (λ k. brackets_left k b) (brackets_left n a))
-  → and_then (λ k. brackets_left k (a ++ b)) m ≡ and_then (λ k. brackets_left k b) (and_then (λ k. brackets_left k a) m)
+    → ((n : ℕ) → brackets_left n (a ++ b) ≡ and_then (λ k. brackets_left k b) (brackets_left n a))
+    → and_then (λ k. brackets_left k (a ++ b)) m ≡ and_then (λ k. brackets_left k b) (and_then (λ k. brackets_left k a) m)
 step_append None a b again = refl
 step_append (Some n) a b again = again n
 

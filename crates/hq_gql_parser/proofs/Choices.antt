@@ -22,41 +22,41 @@ abbrev pub OfUse : {A : Type 0} → (Token → Option A) → A → Language
 OfUse use_of x ts = (t : Token) × (ts ≡ t ∷ []) × (use_of t ≡ Some x)
 
 module _ {A : Type 0} (d e : ℕ) (use_of : Token → Option A) (s : Set)
-  (starts : (t : Token) (x : A) → use_of t ≡ Some x → s (next_of t.kind) ≡ true)
-  (rooms : (t : Token) (x : A) → use_of t ≡ Some x → left_behind t.kind d ≡ Some e) (some : (t : Token) × (x : A) × (use_of t ≡ Some x))
+    (starts : (t : Token) (x : A) → use_of t ≡ Some x → s (next_of t.kind) ≡ true)
+    (rooms : (t : Token) (x : A) → use_of t ≡ Some x → left_behind t.kind d ≡ Some e) (some : (t : Token) × (x : A) × (use_of t ≡ Some x))
   where
-  begins_none : Begins (OfUse use_of) []
-  begins_none = (some.0 ∷ [], some.1, (some.0, refl, some.2))
+    begins_none : Begins (OfUse use_of) []
+    begins_none = (some.0 ∷ [], some.1, (some.0, refl, some.2))
 
-  take_some : (t : Token) (ts : List Token) (x : A) → use_of t ≡ Some x → Taken d e (take use_of) (OfUse use_of) (t ∷ ts) x ts
-  take_some t ts x e = (t ∷ [], refl, (t, refl, e), brackets_left_one d t ∙ rooms t x e, λ after h. rw e refl)
+    take_some : (t : Token) (ts : List Token) (x : A) → use_of t ≡ Some x → Taken d e (take use_of) (OfUse use_of) (t ∷ ts) x ts
+    take_some t ts x e = (t ∷ [], refl, (t, refl, e), brackets_left_one d t ∙ rooms t x e, λ after h. rw e refl)
 
-  wrong_token : (t : Token) (ts after : List Token) → use_of t ≡ None → first after ≡ Some t → take use_of after ≡ Err (Unexpected (length after))
-  wrong_token t ts [] e h = absurd cc
-  wrong_token t ts (u ∷ after) e h = let same : u ≡ t = cc in rw (same, e) refl
+    wrong_token : (t : Token) (ts after : List Token) → use_of t ≡ None → first after ≡ Some t → take use_of after ≡ Err (Unexpected (length after))
+    wrong_token t ts [] e h = absurd cc
+    wrong_token t ts (u ∷ after) e h = let same : u ≡ t = cc in rw (same, e) refl
 
-  take_none : (t : Token) (ts : List Token) → use_of t ≡ None → Wrong d (take use_of) (OfUse use_of) (t ∷ ts) (length (t ∷ ts))
-  take_none t ts e = ([], t ∷ ts, refl, refl, begins_none, (d, refl), λ after h. wrong_token t ts after e h)
+    take_none : (t : Token) (ts : List Token) → use_of t ≡ None → Wrong d (take use_of) (OfUse use_of) (t ∷ ts) (length (t ∷ ts))
+    take_none t ts e = ([], t ∷ ts, refl, refl, begins_none, (d, refl), λ after h. wrong_token t ts after e h)
 
-  take_by : (t : Token) (ts : List Token) (u : Option A) → use_of t ≡ u → Seen d e (take use_of) (OfUse use_of) (t ∷ ts) (taken u t ts)
-  take_by t ts None e = take_none t ts e
-  take_by t ts (Some x) e = take_some t ts x e
+    take_by : (t : Token) (ts : List Token) (u : Option A) → use_of t ≡ u → Seen d e (take use_of) (OfUse use_of) (t ∷ ts) (taken u t ts)
+    take_by t ts None e = take_none t ts e
+    take_by t ts (Some x) e = take_some t ts x e
 
-  take_end : (after : List Token) → first after ≡ None → take use_of after ≡ Err (Unexpected (length after))
-  take_end [] h = refl
-  take_end (u ∷ after) h = absurd cc
+    take_end : (after : List Token) → first after ≡ None → take use_of after ≡ Err (Unexpected (length after))
+    take_end [] h = refl
+    take_end (u ∷ after) h = absurd cc
 
-  take_seen : (ts : List Token) → Seen d e (take use_of) (OfUse use_of) ts (take use_of ts)
-  take_seen [] = ([], [], refl, refl, begins_none, (d, refl), take_end)
-  take_seen (t ∷ ts) = take_by t ts (use_of t) refl
+    take_seen : (ts : List Token) → Seen d e (take use_of) (OfUse use_of) ts (take use_of ts)
+    take_seen [] = ([], [], refl, refl, begins_none, (d, refl), take_end)
+    take_seen (t ∷ ts) = take_by t ts (use_of t) refl
 
-  pub exact_take : Exact d e (take use_of) (OfUse use_of) s anything
-  exact_take = record {
-    some = (some.1, some.0 ∷ [], (some.0, refl, some.2));
-    seen = take_seen;
-    begins = λ x front (t, is, e). rw is (starts t x e);
-    reads = λ x front after (t, is, e) h. rw (is, e) (inl (brackets_left_one d t ∙ rooms t x e, refl));
-  }
+    pub exact_take : Exact d e (take use_of) (OfUse use_of) s anything
+    exact_take = record {
+      some = (some.1, some.0 ∷ [], (some.0, refl, some.2));
+      seen = take_seen;
+      begins = λ x front (t, is, e). rw is (starts t x e);
+      reads = λ x front after (t, is, e) h. rw (is, e) (inl (brackets_left_one d t ∙ rooms t x e, refl));
+    }
 
 -- ---- nothing
 
@@ -74,8 +74,8 @@ exact_pure d x = record {
 -- ---- the same parser
 
 module _ {A : Type 0} {d e : ℕ} {p : Parse A} {R : A → Language} {s k : Set} (T : A → Language) (s' k' : Set) (law : Exact d e p R s k)
-  (to : (x : A) (ts : List Token) → R x ts → T x ts) (from : (x : A) (ts : List Token) → T x ts → R x ts) (starts : subset s s' ≡ true)
-  (follow : subset k' k ≡ true) where
+    (to : (x : A) (ts : List Token) → R x ts → T x ts) (from : (x : A) (ts : List Token) → T x ts → R x ts) (starts : subset s s' ≡ true)
+    (follow : subset k' k ≡ true) where
   as_seen : (ts : List Token) (r : Result (A × List Token) Stop) → Seen d e p R ts r → Seen d e p T ts r
   as_seen ts (Ok x) (front, is, r, m, local) = (front, is, to x.0 front r, m, local)
   as_seen ts (Err (Unexpected n)) (front, rest, is, len, (more, x, r), m, local) = (front, rest, is, len, (more, x, to x (front ++ more) r), m, local)

@@ -30,7 +30,7 @@ ListedIs R = Chain (PunctAt OpenParenthesis) (λ o. Chain (AtLeastOne R) (λ xs.
 
 module _ {A : Type 0} (R : A → Language) where
   listed_parts : (xs ys : List A) (ts a b a' b' : List Token) (o e : ℕ) → ts ≡ a ++ b → PunctAt OpenParenthesis o a → b ≡ a' ++ b'
-    → AtLeastOne R xs a' → ys ≡ xs → PunctAt CloseParenthesis e b' → InParentheses R ys ts
+      → AtLeastOne R xs a' → ys ≡ xs → PunctAt CloseParenthesis e b' → InParentheses R ys ts
   listed_parts [] ys ts a b a' b' o e is r is' one same r' = absurd one
   listed_parts (x ∷ xs) ys ts a b a' b' o e is r is' one same r' = subst (λ zs. InParentheses R zs ts) (sym same) (a, b, is, (o, r), (a', b', is', one, (e, r')))
 

@@ -53,7 +53,7 @@ module _ {A : Type 0} (test : Set) (item : Parse A) where
   ends_by n (Ok x) xs rest again is = ends_more x.0 xs rest (many test item n x.1) (λ ys h. again x.1 ys h) is
 
   ends_test : (n : ℕ) (ts : List Token) (xs : List A) (rest : List Token) (b : Bool) → test (next ts) ≡ b
-    → ((us : List Token) (ys : List A) → many test item n us ≡ Ok (ys, rest) → test (next rest) ≡ false)
+      → ((us : List Token) (ys : List A) → many test item n us ≡ Ok (ys, rest) → test (next rest) ≡ false)
       → (if b then one_and (many test item n) (item ts) else none_left ts) ≡ Ok (xs, rest) → test (next rest) ≡ false
   ends_test n ts xs rest true t again is = ends_by n (item ts) xs rest again is
   ends_test n ts xs rest false t again is = subst (λ us. test (next us) ≡ false) (pair_of [] xs ts rest is) t
@@ -104,7 +104,7 @@ pair_is : (a b : DocumentTree × List Token) → ◌≡◌ {A = Result (Document
 pair_is a b e = cc
 
 found_by : (n : ℕ) (ts : List Token) (ds : DocumentTree) (rest : List Token) (r : Result (DocumentTree × List Token) Stop)
-  → r ≡ Ok (ds, rest) → rest ≡ [] → Seen n n (document_at n) IsDocument ts r → IsDocument ds ts × (document_nest ds ≤ n)
+    → r ≡ Ok (ds, rest) → rest ≡ [] → Seen n n (document_at n) IsDocument ts r → IsDocument ds ts × (document_nest ds ≤ n)
 found_by n ts ds rest (Err e) h none seen = absurd cc
 found_by n ts ds rest (Ok (es, more)) h none (front, is, doc, m, local) =
     let pair = pair_is (es, more) (ds, rest) h in
@@ -210,7 +210,7 @@ unexpected_unique end at at' ts (a, b, any, is, e, begins, none, m) (c, d, any',
     unexpected_by end at at' a b c d e e' begins begins' none none' (splits a b c d (sym is ∙ is'))
 
 unexpected_deep_by : (a b c r : List Token) (t : Token) → NoneGoesOn a b → ((n : ℕ) × (brackets_left nesting_limit a ≡ Some n))
-  → BeginsDocument (c ++ t ∷ []) → brackets_left nesting_limit c ≡ Some 0 → left_behind t.kind 0 ≡ None → Splits a b c (t ∷ r) → ⊥
+    → BeginsDocument (c ++ t ∷ []) → brackets_left nesting_limit c ≡ Some 0 → left_behind t.kind 0 ≡ None → Splits a b c (t ∷ r) → ⊥
 unexpected_deep_by a b c r t none m begins m' o (inl (f, g)) = too_long a b (c ++ t ∷ []) [] t r none g (ap (λ us. us ++ t ∷ []) (sym f)) begins
 unexpected_deep_by a b c r t none m begins m' o (inr (inl (x, l, f, g))) =
     too_long a b (c ++ t ∷ []) (l ++ t ∷ []) x (l ++ t ∷ r) none g (ap (λ us. us ++ t ∷ []) f ∙ append_assoc a (x ∷ l) (t ∷ [])) begins
@@ -222,8 +222,8 @@ unexpected_deep : (end at at' : ℕ) (ts : List Token) → IsUnexpected end ts a
 unexpected_deep end at at' ts (a, b, any, is, e, begins, none, m) (c, t, r, is', e', begins', m', o) = unexpected_deep_by a b c r t none m begins' m' o (splits a b c (t ∷ r) (sym is ∙ is'))
 
 deep_unique_by : (at at' : ℕ) (a b c d : List Token) (t u : Token) → at ≡ t.from → at' ≡ u.from → brackets_left nesting_limit a ≡ Some 0
-  → brackets_left nesting_limit c ≡ Some 0 → left_behind t.kind 0 ≡ None → left_behind u.kind 0 ≡ None → Splits a (t ∷ b) c (u ∷ d)
-  → at ≡ at'
+    → brackets_left nesting_limit c ≡ Some 0 → left_behind t.kind 0 ≡ None → left_behind u.kind 0 ≡ None → Splits a (t ∷ b) c (u ∷ d)
+    → at ≡ at'
 deep_unique_by at at' a b c d t u e e' m m' o o' (inl (f, g)) = e ∙ ap (λ x. x.from) (heads t u b d g) ∙ sym e'
 deep_unique_by at at' a b c d t u e e' m m' o o' (inr (inl (x, l, f, g))) =
     let same : t ≡ x = heads t x b (l ++ u ∷ d) g in

@@ -31,12 +31,12 @@ Taken d e p R ts x rest = (front : List Token) × (ts ≡ front ++ rest) × R x 
 abbrev pub Wrong : {A : Type 0} → (d : ℕ) → Parse A → (A → Language) → List Token → ℕ → Type 0
 Wrong d p R ts n =
     (front : List Token) × (rest : List Token) × (ts ≡ front ++ rest) × (n ≡ length rest) × Begins R front
-      × ((m : ℕ) × (brackets_left d front ≡ Some m)) × Local p front rest (λ after. Err (Unexpected (length after)))
+    × ((m : ℕ) × (brackets_left d front ≡ Some m)) × Local p front rest (λ after. Err (Unexpected (length after)))
 
 abbrev pub Deep : {A : Type 0} → (d : ℕ) → (A → Language) → List Token → ℕ → Type 0
 Deep d R ts n =
     (front : List Token) × (t : Token) × (rest : List Token) × (ts ≡ front ++ (t ∷ rest)) × (n ≡ length (t ∷ rest))
-      × Begins R (front ++ t ∷ []) × (brackets_left d front ≡ Some 0) × (left_behind t.kind 0 ≡ None)
+    × Begins R (front ++ t ∷ []) × (brackets_left d front ≡ Some 0) × (left_behind t.kind 0 ≡ None)
 
 -- an answer is right, where so many brackets may open before and behind what is taken
 abbrev pub Seen : {A : Type 0} → (d e : ℕ) → Parse A → (A → Language) → List Token → Result (A × List Token) Stop → Type 0
@@ -133,7 +133,7 @@ module _ {A B : Type 0} (d e f : ℕ) (p : Parse A) (q : A → Parse B) (R : A �
   second ts x rest took (Err Memory) seen = absurd seen
 
   pub by_first : (ts : List Token) → ((x : A) (us : List Token) → Seen e f (q x) (S x) us (q x us)) → (r : Result (A × List Token) Stop)
-    → Seen d e p R ts r → Seen d f both (Chain R S) ts (r >>= λ y. q y.0 y.1)
+      → Seen d e p R ts r → Seen d f both (Chain R S) ts (r >>= λ y. q y.0 y.1)
   by_first ts law_q (Ok x) seen = second ts x.0 x.1 seen (q x.0 x.1) (law_q x.0 x.1)
   by_first ts law_q (Err (Unexpected n)) seen = first_wrong ts n seen
   by_first ts law_q (Err (TooDeep n)) seen = first_deep ts n seen
@@ -144,12 +144,12 @@ module _ {A B : Type 0} (d e f : ℕ) (p : Parse A) (q : A → Parse B) (R : A �
   reads_second a b after x y r m (inr (n, m', e')) = inr (n, brackets_left_then d e a b m ∙ m', e')
 
   pub reads_both : (a b after : List Token) (x : A) (y : B) (r : Result (A × List Token) Stop) → Reads d e a r (x, b ++ after)
-    → Reads e f b (q x (b ++ after)) (y, after) → Reads d f (a ++ b) (r >>= λ z. q z.0 z.1) (y, after)
+      → Reads e f b (q x (b ++ after)) (y, after) → Reads d f (a ++ b) (r >>= λ z. q z.0 z.1) (y, after)
   reads_both a b after x y r (inl (m, is)) on_q = rw is (reads_second a b after x y (q x (b ++ after)) m on_q)
   reads_both a b after x y r (inr (n, m, is)) on_q = inr (n, brackets_left_none d a b m, rw is refl)
 
 module _ {A B : Type 0} {d e f : ℕ} {p : Parse A} {q : A → Parse B} {R : A → Language} {S : A → B → Language} {s1 k1 s2 k2 : Set}
-  (law_p : Exact d e p R s1 k1) (law_q : (x : A) → Exact e f (q x) (S x) s2 k2) (fits : subset (joined s2 k2) k1 ≡ true) where
+    (law_p : Exact d e p R s1 k1) (law_q : (x : A) → Exact e f (q x) (S x) s2 k2) (fits : subset (joined s2 k2) k1 ≡ true) where
   chain_begins : (y : B) (front : List Token) → Chain R S y front → joined s1 s2 (next front) ≡ true
   chain_begins y front (x, (a, b, is, r, s)) = rw is (first_in s1 s2 a b (law_p.begins x a r) ((law_q x).begins y b s))
 

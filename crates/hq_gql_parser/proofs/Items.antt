@@ -15,7 +15,7 @@ use Rattle.hq_gql_parser.proofs.Choices.{Only, Mapped, mapped_seen, mapped_reads
 
 -- the same answers of an equal parser, for a wider grammar
 seen_to : {A : Type 0} (d e : ℕ) (p q : Parse A) (R T : A → Language) (ts : List Token) → ((us : List Token) → p us ≡ q us)
-  → ((x : A) (us : List Token) → R x us → T x us) → (r : Result (A × List Token) Stop) → Seen d e p R ts r → Seen d e q T ts r
+    → ((x : A) (us : List Token) → R x us → T x us) → (r : Result (A × List Token) Stop) → Seen d e p R ts r → Seen d e q T ts r
 seen_to d e p q R T ts same to (Ok x) (front, is, r, m, local) = (front, is, to x.0 front r, m, λ after h. sym (same (front ++ after)) ∙ local after h)
 seen_to d e p q R T ts same to (Err (Unexpected n)) (front, rest, is, len, (more, x, r), m, local) =
     (front, rest, is, len, (more, x, to x (front ++ more) r), m, λ after h. sym (same (front ++ after)) ∙ local after h)
@@ -65,7 +65,7 @@ module _ {A : Type 0} {d : ℕ} {item : Parse A} {R : A → Language} {s k : Set
     enough (suc n) (suc m) ts hn hm = ap (λ r. if test (next ts) then r else Ok ([], ts)) (enough_after n m ts (λ us h. enough n m us (omega arith) (omega arith)) (item ts) (law.seen ts))
 
     all_after : (n : ℕ) (ts : List Token) → length ts ≤ n → (r : Result (A × List Token) Stop) → Seen d d item R ts r
-      → (r >>= λ x. more_of (many test item n) x.0 x.1) ≡ (r >>= λ x. more_of (all test item) x.0 x.1)
+        → (r >>= λ x. more_of (many test item n) x.0 x.1) ≡ (r >>= λ x. more_of (all test item) x.0 x.1)
     all_after n ts hn (Err e) seen = refl
     all_after n ts hn (Ok x) seen = let lt = shorter ts x.0 x.1 seen in rw (enough n (suc (length x.1)) x.1 (omega arith) (omega arith)) refl
 
@@ -108,7 +108,7 @@ module _ {A : Type 0} {d : ℕ} {item : Parse A} {R : A → Language} {s k : Set
         (either test (one_of (all test item)) nothing ts) (seen_by ts (λ us lt. all_seen n us (omega arith)) (test (next ts)) refl))
 
     module _ (follow : Set) (starts : subset (joined s anything) (union s is_end) ≡ true) (on : subset (joined s anything) test ≡ true)
-      (off : subset follow (λ a. not (test a)) ≡ true) (fits : subset (joined (union s is_end) follow) k ≡ true) where
+        (off : subset follow (λ a. not (test a)) ≡ true) (fits : subset (joined (union s is_end) follow) k ≡ true) where
       each_begins : (xs : List A) (ts : List Token) → Each R xs ts → union s is_end (next ts) ≡ true
       each_begins [] ts is = rw is (right_holds (s ahead.End) true refl)
       each_begins (x ∷ xs) ts (a, b, is, r, each) = rw is (within (joined s anything) (union s is_end) starts (next (a ++ b)) (first_in s anything a b (law.begins x a r) refl))

@@ -35,27 +35,27 @@ unfolding some
 begun test item ts x rest e = rw e refl
 
 module _ {A : Type 0} {d : ℕ} {item : Parse A} {R : A → Language} {s k : Set} (law : Exact d d item R s k) (takes : s ahead.End ≡ false)
-  (test : Set) (found : List A) (ts : List Token) (total : Result (List A × List Token) Stop) (so_far : IsParsed test item found ts total)
+    (test : Set) (found : List A) (ts : List Token) (total : Result (List A × List Token) Stop) (so_far : IsParsed test item found ts total)
   where
-  -- where an item stops, all stops
-  pub stopped : test (next ts) ≡ true → (e : Stop) → (e ≡ Memory) ⊎ (item ts ≡ Err e) → (e ≡ Memory) ⊎ (total ≡ Err e)
-  stopped t e (inl m) = inl m
-  stopped t e (inr is) =
-      let all_stop : all test item ts ≡ Err e = rw (all_is law takes test ts, t, is) refl in
-      inr (sym so_far ∙ ap (with_front found) all_stop)
+    -- where an item stops, all stops
+    pub stopped : test (next ts) ≡ true → (e : Stop) → (e ≡ Memory) ⊎ (item ts ≡ Err e) → (e ≡ Memory) ⊎ (total ≡ Err e)
+    stopped t e (inl m) = inl m
+    stopped t e (inr is) =
+        let all_stop : all test item ts ≡ Err e = rw (all_is law takes test ts, t, is) refl in
+        inr (sym so_far ∙ ap (with_front found) all_stop)
 
-  regroup : (x : A) (r : Result (List A × List Token) Stop) → with_front found (r >>= λ xs. Ok (x ∷ xs.0, xs.1)) ≡ with_front (found ++ x ∷ []) r
-  regroup x (Err e) = refl
-  regroup x (Ok xs) = ap (λ ys. Ok (ys, xs.1)) (sym (append_assoc found (x ∷ []) xs.0))
+    regroup : (x : A) (r : Result (List A × List Token) Stop) → with_front found (r >>= λ xs. Ok (x ∷ xs.0, xs.1)) ≡ with_front (found ++ x ∷ []) r
+    regroup x (Err e) = refl
+    regroup x (Ok xs) = ap (λ ys. Ok (ys, xs.1)) (sym (append_assoc found (x ∷ []) xs.0))
 
-  -- behind an item the rest is left
-  pub parsed_more : test (next ts) ≡ true → (x : A) (rest : List Token) → item ts ≡ Ok (x, rest) → IsParsed test item (found ++ x ∷ []) rest total
-  parsed_more t x rest is =
-      let one : all test item ts ≡ (all test item rest >>= λ xs. Ok (x ∷ xs.0, xs.1)) = rw (all_is law takes test ts, t, is) refl in
-      sym (regroup x (all test item rest)) ∙ ap (with_front found) (sym one) ∙ so_far
+    -- behind an item the rest is left
+    pub parsed_more : test (next ts) ≡ true → (x : A) (rest : List Token) → item ts ≡ Ok (x, rest) → IsParsed test item (found ++ x ∷ []) rest total
+    parsed_more t x rest is =
+        let one : all test item ts ≡ (all test item rest >>= λ xs. Ok (x ∷ xs.0, xs.1)) = rw (all_is law takes test ts, t, is) refl in
+        sym (regroup x (all test item rest)) ∙ ap (with_front found) (sym one) ∙ so_far
 
-  -- where the test fails, these are all
-  pub finished : test (next ts) ≡ false → total ≡ Ok (found, ts)
-  finished t =
-      let none : all test item ts ≡ Ok ([], ts) = rw (all_is law takes test ts, t) refl in
-      sym so_far ∙ ap (with_front found) none ∙ ap (λ ys. Ok (ys, ts)) (append-nil found)
+    -- where the test fails, these are all
+    pub finished : test (next ts) ≡ false → total ≡ Ok (found, ts)
+    finished t =
+        let none : all test item ts ≡ Ok ([], ts) = rw (all_is law takes test ts, t) refl in
+        sym so_far ∙ ap (with_front found) none ∙ ap (λ ys. Ok (ys, ts)) (append-nil found)

@@ -38,10 +38,10 @@ mutual
   value_opens c at (enum n) ts (name, e, r) = opens_token (kind.Name name) at ts (λ d. refl) r
   value_opens c at (list vs) ts (a, b, is, r, (a', b', is', els, close)) =
       opens_in punct.OpenBracket punct.CloseBracket (elements_nest vs) at ts a b a' b' (λ d. refl) (λ d. refl) is r is'
-        (elements_opens c vs a' els) close
+      (elements_opens c vs a' els) close
   value_opens c at (object ms) ts (a, b, is, r, (a', b', is', els, close)) =
       opens_in punct.OpenBrace punct.CloseBrace (members_nest ms) at ts a b a' b' (λ d. refl) (λ d. refl) is r is'
-        (members_opens c ms a' els) close
+      (members_opens c ms a' els) close
   value_opens c at (variable name) ts (e, (a, b, is, r, r')) = opens_behind 0 ts a b is (opens_token (kind.Punct punct.Dollar) at a (λ d. refl) r) (opens_name name b r')
 
   elements_opens : (c : Bool) (vs : ElementTrees) (ts : List Token) → AreElements c vs ts → Opens (elements_nest vs) ts
@@ -64,18 +64,18 @@ argument_opens c x ts (a, b, is, r, (a', b', is', r', r'')) =
 
 -- lists of parts
 module _ {A : Type 0} (P : A → Language) (nest : A → ℕ) (nests : List A → ℕ) (none : nests [] ≡ 0)
-  (more : (x : A) (xs : List A) → nests (x ∷ xs) ≡ max (nest x) (nests xs)) (part : (x : A) (ts : List Token) → P x ts → Opens (nest x) ts)
+    (more : (x : A) (xs : List A) → nests (x ∷ xs) ≡ max (nest x) (nests xs)) (part : (x : A) (ts : List Token) → P x ts → Opens (nest x) ts)
   where
-  each_opens : (xs : List A) (ts : List Token) → Each P xs ts → Opens (nests xs) ts
-  each_opens [] ts is = rw none (opens_nothing ts is)
-  each_opens (x ∷ xs) ts (a, b, is, r, each) = rw (more x xs) (opens_both (nest x) (nests xs) ts a b is (part x a r) (each_opens xs b each))
+    each_opens : (xs : List A) (ts : List Token) → Each P xs ts → Opens (nests xs) ts
+    each_opens [] ts is = rw none (opens_nothing ts is)
+    each_opens (x ∷ xs) ts (a, b, is, r, each) = rw (more x xs) (opens_both (nest x) (nests xs) ts a b is (part x a r) (each_opens xs b each))
 
-  parentheses_open : (xs : List A) (ts : List Token) → InParentheses P xs ts → Opens (nests xs) ts
-  parentheses_open [] ts is = rw none (opens_nothing ts is)
-  parentheses_open (x ∷ xs) ts (a, b, is, (at, r), (a', b', is', one, (at', r'))) =
-      let n = nests (x ∷ xs) in
-      opens_behind n ts a b is (opens_token (kind.Punct punct.OpenParenthesis) at a (λ d. refl) r)
-      (opens_before n b a' b' is' (each_opens (x ∷ xs) a' one) (opens_token (kind.Punct punct.CloseParenthesis) at' b' (λ d. refl) r'))
+    parentheses_open : (xs : List A) (ts : List Token) → InParentheses P xs ts → Opens (nests xs) ts
+    parentheses_open [] ts is = rw none (opens_nothing ts is)
+    parentheses_open (x ∷ xs) ts (a, b, is, (at, r), (a', b', is', one, (at', r'))) =
+        let n = nests (x ∷ xs) in
+        opens_behind n ts a b is (opens_token (kind.Punct punct.OpenParenthesis) at a (λ d. refl) r)
+        (opens_before n b a' b' is' (each_opens (x ∷ xs) a' one) (opens_token (kind.Punct punct.CloseParenthesis) at' b' (λ d. refl) r'))
 
 arguments_open : (c : Bool) (xs : List ArgumentTree) (ts : List Token) → AreArguments c xs ts → Opens (arguments_nest xs) ts
 arguments_open c = parentheses_open (IsArgument c) (λ x. value_nest x.value.value) arguments_nest refl (λ x xs. refl) (argument_opens c)
@@ -95,14 +95,14 @@ mutual
   nullable_opens at (named place name) ts (e, r) = opens_token (kind.Name name) place ts (λ d. refl) r
   nullable_opens at (list_type place of) ts (e, (a, b, is, r, (a', b', is', r', close))) =
       opens_in punct.OpenBracket punct.CloseBracket (type_nest of) place ts a b a' b' (λ d. refl) (λ d. refl) is r is' (type_opens of a' r')
-        close
+      close
   nullable_opens at (non_null place of) ts r = absurd r
 
   type_opens : (t : TypeTree) (ts : List Token) → IsType t ts → Opens (type_nest t) ts
   type_opens (named at name) ts r = opens_token (kind.Name name) at ts (λ d. refl) r
   type_opens (list_type at of) ts (a, b, is, r, (a', b', is', r', close)) =
       opens_in punct.OpenBracket punct.CloseBracket (type_nest of) at ts a b a' b' (λ d. refl) (λ d. refl) is r is' (type_opens of a' r')
-        close
+      close
   type_opens (non_null at of) ts (a, b, is, r, (place, r')) = opens_before (type_nest of) ts a b is (nullable_opens at of a r) (opens_token (kind.Punct punct.Bang) place b (λ d. refl) r')
 
 -- ---- selections
@@ -131,8 +131,8 @@ mutual
       let e : max m (max n k) ≡ max (max m n) k = omega arith in
       opens_as (max m (max n k)) (max (max m n) k) ts e
       (opens_behind (max m (max n k)) ts a b is (head_opens h.at h.alias h.name a r)
-         (opens_both m (max n k) b a' b' is' (arguments_open false h.args a' r')
-            (opens_both n k b' a'' b'' is'' (directives_open false h.directives a'' r'') (set_opens set b'' s))))
+      (opens_both m (max n k) b a' b' is' (arguments_open false h.args a' r')
+      (opens_both n k b' a'' b'' is'' (directives_open false h.directives a'' r'') (set_opens set b'' s))))
   selection_opens (spread s) ts (a, b, is, r, (a', b', is', r', r'')) =
       let n = directives_nest s.directives in
       opens_behind n ts a b is (opens_token (kind.Punct punct.Spread) s.at a (λ d. refl) r) (opens_behind n b a' b' is' (fragment_name_opens s.name a' r') (directives_open false s.directives b' r''))

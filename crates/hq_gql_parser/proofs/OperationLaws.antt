@@ -52,11 +52,11 @@ law_default n =
     exact_as IsDefault (union is_equals is_end) no_equals
     (exact_either is_equals
     (exact_as SomeDefaultIs is_equals no_equals
-       (exact_then (exact_punct Equals n n refl)
-          (λ e. exact_map (λ v. Some v)
-             (exact_as (IsPlaced true) anything anything (law_value true n) (λ v ts r. r) (λ v ts r. r) (subset_anything is_value) refl))
-          refl)
-       (λ v ts r. r) (λ v ts r. r) refl refl)
+    (exact_then (exact_punct Equals n n refl)
+    (λ e. exact_map (λ v. Some v)
+    (exact_as (IsPlaced true) anything anything (law_value true n) (λ v ts r. r) (λ v ts r. r) (subset_anything is_value) refl))
+    refl)
+    (λ v ts r. r) (λ v ts r. r) refl refl)
     (exact_as (Only None) is_end no_equals (exact_pure n None) (λ v ts r. r) (λ v ts r. r) refl refl) refl refl)
     default_to default_from refl refl
 
@@ -143,10 +143,10 @@ law_operation n k e =
     (exact_then (exact_keyword (kind_keyword k) n)
     (λ w. exact_as
     (Chain IsSomeName
-       (λ m. Chain AreVariables
-          (λ vs. Chain (AreDirectives false)
-             (λ ds. Mapped
-                (λ s. operation (record { at = w; kind = k; name = m; vars = vs; directives = ds; selections = selections_of s.1 })) SetIs))))
+    (λ m. Chain AreVariables
+    (λ vs. Chain (AreDirectives false)
+    (λ ds. Mapped
+    (λ s. operation (record { at = w; kind = k; name = m; vars = vs; directives = ds; selections = selections_of s.1 })) SetIs))))
     anything anything
     (exact_then (law_some_name n) (λ m. exact_then (law_variables n) (λ vs. exact_then (law_directives false n)
     (λ ds. exact_map (λ s. operation (record { at = w; kind = k; name = m; vars = vs; directives = ds; selections = selections_of s.1 })) (law_set n)) refl) refl) refl)
@@ -202,19 +202,48 @@ set_back at ss ts r = subst (λ w. IsSelectionSet at w ts) (sym (selections_back
 operation_from : (k : OpKind) (at : ℕ) (m : Option (List ℕ)) (vs : List VarDefTree) (ds : List DirectiveTree) (ss : SelectionTrees) (ts : List Token)
     → IsNamedOperation (record { at = at; kind = k; name = m; vars = vs; directives = ds; selections = ss }) ts
     → OperationIs k (operation (record { at = at; kind = k; name = m; vars = vs; directives = ds; selections = ss })) ts
-operation_from k at m vs ds ss ts (a, b, is, r, (a1, b1, is1, r1, (a2, b2, is2, r2, (a3, b3, is3, r3, (place, r4))))) =
-    (at,
-       (a, b, is, r,
-          (m,
-             (a1, b1, is1, r1,
-                (vs,
-                   (a2, b2, is2, r2,
-                      (ds,
-                         (a3, b3, is3, r3,
-                            ((place, selections_in ss),
-                               ap (λ ws. operation (record { at = at; kind = k; name = m; vars = vs; directives = ds; selections = ws }))
-                                 (sym (selections_back ss)),
-                               set_back place ss b3 r4)))))))))
+operation_from k at m vs ds ss ts (a, b, is, r, (a1, b1, is1, r1, (a2, b2, is2, r2, (a3, b3, is3, r3, (place, r4))))) = (
+  at,
+  (
+    a,
+    b,
+    is,
+    r,
+    (
+      m,
+      (
+        a1,
+        b1,
+        is1,
+        r1,
+        (
+          vs,
+          (
+            a2,
+            b2,
+            is2,
+            r2,
+            (
+              ds,
+              (
+                a3,
+                b3,
+                is3,
+                r3,
+                (
+                  (place, selections_in ss),
+                  ap (λ ws. operation (record { at = at; kind = k; name = m; vars = vs; directives = ds; selections = ws }))
+                      (sym (selections_back ss)),
+                  set_back place ss b3 r4,
+                ),
+              ),
+            ),
+          ),
+        ),
+      ),
+    ),
+  ),
+)
 
 named_from : (k : OpKind) (at : ℕ) (m : Option (List ℕ)) (vs : List VarDefTree) (ds : List DirectiveTree) (ss : SelectionTrees) (ts : List Token)
     → IsNamedOperation (record { at = at; kind = k; name = m; vars = vs; directives = ds; selections = ss }) ts
@@ -227,8 +256,8 @@ shorthand_from : (at : ℕ) (k : OpKind) (m : Option (List ℕ)) (vs : List VarD
     → k ≡ Query → m ≡ None → vs ≡ [] → ds ≡ [] → IsSelectionSet at ss ts → ShorthandIs (operation (record { at = at; kind = k; name = m; vars = vs; directives = ds; selections = ss })) ts
 shorthand_from at k m vs ds ss ts e1 e2 e3 e4 r =
     let same : ◌≡◌ {A = DefinitionTree} (operation (record { at = at; kind = k; name = m; vars = vs; directives = ds; selections = ss }))
-      (operation (record { at = at; kind = Query; name = None; vars = []; directives = []; selections = selections_of (selections_in ss) }))
-      =
+    (operation (record { at = at; kind = Query; name = None; vars = []; directives = []; selections = selections_of (selections_in ss) }))
+    =
     rw (e1, e2, e3, e4, selections_back ss) refl in
     ((at, selections_in ss), same, set_back at ss ts r)
 
@@ -237,21 +266,50 @@ definition_from (operation o) ts (inl (e1, e2, e3, e4, r)) = inl (shorthand_from
 definition_from (operation o) ts (inr r) = named_from o.kind o.at o.name o.vars o.directives o.selections ts r
 definition_from (fragment f) ts (a, b, is, r, (a1, b1, is1, r1, (a2, b2, is2, r2, (a3, b3, is3, r3, (place, r4))))) =
     inr
-      (inl
-         (f.at,
-            (a, b, is, r,
-               (f.name,
-                  (a1, b1, is1, r1,
-                     (f.cond,
-                        (a2, b2, is2, r2,
-                           (f.directives,
-                              (a3, b3, is3, r3,
-                                 ((place, selections_in f.selections),
-                                    ap
-                                      (λ ws. fragment
-                                         (record { at = f.at; name = f.name; cond = f.cond; directives = f.directives; selections = ws }))
-                                      (sym (selections_back f.selections)),
-                                    set_back place f.selections b3 r4))))))))))
+    (inl (
+      f.at,
+      (
+        a,
+        b,
+        is,
+        r,
+        (
+          f.name,
+          (
+            a1,
+            b1,
+            is1,
+            r1,
+            (
+              f.cond,
+              (
+                a2,
+                b2,
+                is2,
+                r2,
+                (
+                  f.directives,
+                  (
+                    a3,
+                    b3,
+                    is3,
+                    r3,
+                    (
+                      (place, selections_in f.selections),
+                      ap
+                          (λ ws. fragment
+                          (record { at = f.at; name = f.name; cond = f.cond; directives = f.directives; selections = ws }))
+                          (sym (selections_back f.selections)),
+                      set_back place f.selections b3 r4,
+                    ),
+                  ),
+                ),
+              ),
+            ),
+          ),
+        ),
+      ),
+    ))
 
 -- what a definition begins with
 abbrev pub is_definition : Set

@@ -148,8 +148,8 @@ spread_to : (o : ℕ) (x : SelectionTree) (ts a b : List Token) → ts ≡ a ++ 
 spread_to o x ts a b is r (m, (a', b', is', r', (ds, same, r''))) = subst (λ w. IsSelection w ts) (sym same) (a, b, is, r, (a', b', is', r', r''))
 
 inline_parts : (o at : ℕ) (ss : List SelectionTree) (ts a b a' b' a'' b'' : List Token) (c : Option TypeCond) (ds : List DirectiveTree)
-  → ts ≡ a ++ b → PunctAt Spread o a → b ≡ a' ++ b' → IsSomeCondition c a' → b' ≡ a'' ++ b'' → AreDirectives false ds a''
-  → SetIs (at, ss) b''
+    → ts ≡ a ++ b → PunctAt Spread o a → b ≡ a' ++ b' → IsSomeCondition c a' → b' ≡ a'' ++ b'' → AreDirectives false ds a''
+    → SetIs (at, ss) b''
     → IsSelection (inline (record { at = o; cond = c; directives = ds }) (selections_of ss)) ts
 inline_parts o at [] ts a b a' b' a'' b'' c ds is r is' r' is'' r'' set = absurd set
 inline_parts o at (s ∷ ss) ts a b a' b' a'' b'' c ds is r is' r' is'' r'' (p, q, is''', brace, more) = (a, b, is, r, (a', b', is', r', (a'', b'', is'', r'', (p, q, is''', (at, brace), more))))
@@ -165,28 +165,70 @@ selection_to x ts (inr f) = field_to x ts f
 
 selection_from : (x : SelectionTree) (ts : List Token) → IsSelection x ts → Either FragmentIs FieldIs x ts
 selection_from (field h set) ts (a, b, is, r, (a', b', is', r', (a'', b'', is'', r'', s))) =
-    inr
-      ((h.at, h.alias, h.name),
-         (a, b, is, r,
-            (h.args,
-               (a', b', is', r',
-                  (h.directives,
-                     (a'', b'', is'', r'',
-                        (selections_in set, ap (field h) (sym (selections_back set)), subst (λ w. IsSet w b'') (sym (selections_back set)) s)))))))
+    inr (
+      (h.at, h.alias, h.name),
+      (
+        a,
+        b,
+        is,
+        r,
+        (
+          h.args,
+          (
+            a',
+            b',
+            is',
+            r',
+            (
+              h.directives,
+              (
+                a'',
+                b'',
+                is'',
+                r'',
+                (selections_in set, ap (field h) (sym (selections_back set)), subst (λ w. IsSet w b'') (sym (selections_back set)) s),
+              ),
+            ),
+          ),
+        ),
+      ),
+    )
 selection_from (spread s) ts (a, b, is, r, (a', b', is', r', r'')) = inl (s.at, (a, b, is, r, inl (s.name, (a', b', is', r', (s.directives, refl, r'')))))
 selection_from (inline h no_selection) ts r = absurd r
 selection_from (inline h (selection s more)) ts (a, b, is, r, (a', b', is', r', (a'', b'', is'', r'', (p, q, is''', (at, brace), rest)))) =
     let back = selections_back (selection s more) in
-    inl
-      (h.at,
-         (a, b, is, r,
-            inr
-              (h.cond,
-                 (a', b', is', r',
-                    (h.directives,
-                       (a'', b'', is'', r'',
-                          ((at, s ∷ selections_in more), ap (inline h) (sym back),
-                             subst (λ w. IsSelectionSet at w b'') (sym back) (p, q, is''', brace, rest))))))))
+    inl (
+      h.at,
+      (
+        a,
+        b,
+        is,
+        r,
+        inr (
+          h.cond,
+          (
+            a',
+            b',
+            is',
+            r',
+            (
+              h.directives,
+              (
+                a'',
+                b'',
+                is'',
+                r'',
+                (
+                  (at, s ∷ selections_in more),
+                  ap (inline h) (sym back),
+                  subst (λ w. IsSelectionSet at w b'') (sym back) (p, q, is''', brace, rest),
+                ),
+              ),
+            ),
+          ),
+        ),
+      ),
+    )
 
 -- what an inline fragment begins with, behind its `...`
 abbrev is_inline : Set
@@ -247,7 +289,7 @@ abbrev SetParts : ℕ × List SelectionTree → Language
 SetParts = Chain (PunctAt OpenBrace) (λ o. Chain (AtLeastOne IsSelection) (λ ss. Mapped (λ e. (o, ss)) (PunctAt CloseBrace)))
 
 set_parts : (o e : ℕ) (ss : List SelectionTree) (ts a b a' b' : List Token) → ts ≡ a ++ b → PunctAt OpenBrace o a → b ≡ a' ++ b'
-  → AtLeastOne IsSelection ss a' → PunctAt CloseBrace e b' → SetIs (o, ss) ts
+    → AtLeastOne IsSelection ss a' → PunctAt CloseBrace e b' → SetIs (o, ss) ts
 set_parts o e [] ts a b a' b' is r is' one close = absurd one
 set_parts o e (s ∷ ss) ts a b a' b' is r is' (p, q, is'', first, each) close = (a, b, is, r, (a', b', is', (p, q, is'', first, selections_to ss q each), (e, close)))
 
@@ -296,7 +338,7 @@ unfolding set_at
 law_set zero =
     let b = set_begins (token 0 (kind.Punct OpenBrace)) refl in
     exact_stopped 0 OpenBrace SetIs anything (b.1, (token 0 (kind.Punct OpenBrace) ∷ []) ++ b.0, b.2) set_begins
-      (λ x front r. set_opens x.0 x.1 front r) refl (at_self OpenBrace) (λ t h. punct_is OpenBrace t.kind h)
+    (λ x front r. set_opens x.0 x.1 front r) refl (at_self OpenBrace) (λ t h. punct_is OpenBrace t.kind h)
 law_set (suc n) = exact_set n (selection_at n) (law_selection n (set_at n) (law_set n))
 
 pub law_selection_at : (n : ℕ) → Exact n n (selection_at n) IsSelection is_selection after_field

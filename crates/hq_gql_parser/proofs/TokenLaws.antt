@@ -78,8 +78,8 @@ module _ (p : Punct) where
   exact_punct d e brackets_left =
       exact_as (PunctAt p) (is_at (ahead.Punct p)) anything
       (exact_take d e (punct_use p) (is_at (ahead.Punct p)) (λ t at h. (given (is_at (ahead.Punct p) (next_of t.kind)) t.from at h).0)
-         (λ t at h. ap (λ k. left_behind k d) (used t at h).0 ∙ brackets_left)
-         (token 0 (kind.Punct p), 0, use_self (token 0 (kind.Punct p)) refl))
+      (λ t at h. ap (λ k. left_behind k d) (used t at h).0 ∙ brackets_left)
+      (token 0 (kind.Punct p), 0, use_self (token 0 (kind.Punct p)) refl))
       punct_to punct_from (subset_self (is_at (ahead.Punct p))) (subset_anything anything)
 
 -- ---- names
@@ -108,8 +108,8 @@ unfolding name_at
 exact_name d =
     exact_as NameAt is_name anything
     (exact_take d d name_use is_name
-       (λ t n h. subst (λ k. is_name (next_of k) ≡ true) (sym (name_used t.kind t.from n h).0) (named_name (keyword_of n.1)))
-       (λ t n h. ap (λ k. left_behind k d) (name_used t.kind t.from n h).0) (token 0 (kind.Name []), (0, []), refl))
+    (λ t n h. subst (λ k. is_name (next_of k) ≡ true) (sym (name_used t.kind t.from n h).0) (named_name (keyword_of n.1)))
+    (λ t n h. ap (λ k. left_behind k d) (name_used t.kind t.from n h).0) (token 0 (kind.Name []), (0, []), refl))
     name_to (λ n ts (to, is). (record { from = n.0; to = to; kind = kind.Name n.1 }, is, refl)) (subset_self is_name) (subset_anything anything)
 
 -- ---- keywords
@@ -154,9 +154,9 @@ unfolding keyword_at
 exact_keyword w d =
     exact_as (WordAt w) (is_at (ahead.Keyword w)) anything
     (exact_take d d (keyword_use w) (is_at (ahead.Keyword w))
-       (λ t at h. subst (λ k. is_at (ahead.Keyword w) (next_of k) ≡ true) (sym (keyword_used w t.kind t.from at h).0) (keyword_next w))
-       (λ t at h. ap (λ k. left_behind k d) (keyword_used w t.kind t.from at h).0)
-       (token 0 (kind.Name (keyword_text w)), 0, keyword_self w 0))
+    (λ t at h. subst (λ k. is_at (ahead.Keyword w) (next_of k) ≡ true) (sym (keyword_used w t.kind t.from at h).0) (keyword_next w))
+    (λ t at h. ap (λ k. left_behind k d) (keyword_used w t.kind t.from at h).0)
+    (token 0 (kind.Name (keyword_text w)), 0, keyword_self w 0))
     (keyword_to w) (λ at ts (to, is). (record { from = at; to = to; kind = kind.Name (keyword_text w) }, is, keyword_self w at)) (subset_self (is_at (ahead.Keyword w))) (subset_anything anything)
 
 -- ---- names of fragments
@@ -250,4 +250,4 @@ pub exact_literal : (d : ℕ) → Exact d d literal_at (OfUse literal_use) is_li
 unfolding literal_at
 exact_literal d =
     exact_take d d literal_use is_literal (λ t v h. literal_next t.kind t.from v h) (λ t v h. literal_brackets_left t.kind t.from d v h)
-      (token 0 (kind.Int []), record { at = 0; value = int [] }, refl)
+    (token 0 (kind.Int []), record { at = 0; value = int [] }, refl)

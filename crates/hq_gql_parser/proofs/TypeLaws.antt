@@ -50,8 +50,8 @@ law_non_null_type : (n : ℕ) (t : ℕ × TypeTree) → Exact n n (non_null_type
 unfolding non_null_type_at is_at
 law_non_null_type n t =
     exact_either (is_at (ahead.Punct Bang))
-      (exact_as (Mapped (λ b. non_null t.0 t.1) (PunctAt Bang)) (is_at (ahead.Punct Bang)) no_exclamation
-         (exact_map (λ b. non_null t.0 t.1) (exact_punct Bang n n refl)) (λ v ts r. r) (λ v ts r. r) refl refl)
+    (exact_as (Mapped (λ b. non_null t.0 t.1) (PunctAt Bang)) (is_at (ahead.Punct Bang)) no_exclamation
+    (exact_map (λ b. non_null t.0 t.1) (exact_punct Bang n n refl)) (λ v ts r. r) (λ v ts r. r) refl refl)
     (exact_as (Only t.1) is_end no_exclamation (exact_pure n t.1) (λ v ts r. r) (λ v ts r. r) refl refl) refl refl
 
 nullable_type : (at : ℕ) (t : TypeTree) (ts : List Token) → IsNullable at t ts → IsType t ts
@@ -81,7 +81,7 @@ module _ (n : ℕ) (list_type : Parse (ℕ × TypeTree)) (law : Exact n n list_t
   exact_type = exact_as IsType is_type no_exclamation (exact_then exact_nullable (law_non_null_type n) refl) type_to type_from refl refl
 
 exact_list_type : (n : ℕ) (type_of : Parse TypeTree) → Exact n n type_of IsType is_type no_exclamation
-  → Exact (suc n) (suc n) (list_type_with type_of) ListTypeIs (is_at (ahead.Punct OpenBracket)) anything
+    → Exact (suc n) (suc n) (list_type_with type_of) ListTypeIs (is_at (ahead.Punct OpenBracket)) anything
 unfolding list_type_with is_at is_name
 exact_list_type n type_of law =
     exact_as ListTypeIs (is_at (ahead.Punct OpenBracket)) anything

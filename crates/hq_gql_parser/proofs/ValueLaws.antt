@@ -127,7 +127,7 @@ value_from at (variable name) ts (e, (a, b, is, r, (place, m))) = inr (inr (inl 
 
 module _ (n : ℕ) (list_of object_of : Parse PlacedTree) where
   pub exact_value : (c : Bool) → Exact n n list_of (ListIs c) is_bracket anything → Exact n n object_of (ObjectIs c) is_brace anything
-    → Exact n n (value_with c list_of object_of) (IsPlaced c) is_value anything
+      → Exact n n (value_with c list_of object_of) (IsPlaced c) is_value anything
   unfolding value_with is_at is_literal
   exact_value true law_list law_object =
       exact_as (IsPlaced true) is_value anything
@@ -172,20 +172,34 @@ list_begins : (c : Bool) (t : Token) → t.kind ≡ kind.Punct OpenBracket → B
 list_begins c t e = (
   token 0 (kind.Punct CloseBracket) ∷ [],
   record { at = t.from; value = list no_element },
-  (t.from,
-     (t ∷ [], token 0 (kind.Punct CloseBracket)
-        ∷ [], refl, (t.to, ap (λ k. record { from = t.from; to = t.to; kind = k } ∷ []) e),
-          ([], ([], token 0 (kind.Punct CloseBracket) ∷ [], refl, refl, (0, refl, (0, refl)))))),
+  (
+    t.from,
+    (
+      t ∷ [],
+      token 0 (kind.Punct CloseBracket)
+          ∷ [],
+      refl,
+      (t.to, ap (λ k. record { from = t.from; to = t.to; kind = k } ∷ []) e),
+      ([], ([], token 0 (kind.Punct CloseBracket) ∷ [], refl, refl, (0, refl, (0, refl)))),
+    ),
+  ),
 )
 
 object_begins : (c : Bool) (t : Token) → t.kind ≡ kind.Punct OpenBrace → Begins (ObjectIs c) (t ∷ [])
 object_begins c t e = (
   token 0 (kind.Punct CloseBrace) ∷ [],
   record { at = t.from; value = object no_member },
-  (t.from,
-     (t ∷ [], token 0 (kind.Punct CloseBrace)
-        ∷ [], refl, (t.to, ap (λ k. record { from = t.from; to = t.to; kind = k } ∷ []) e),
-          ([], ([], token 0 (kind.Punct CloseBrace) ∷ [], refl, refl, (0, refl, (0, refl)))))),
+  (
+    t.from,
+    (
+      t ∷ [],
+      token 0 (kind.Punct CloseBrace)
+          ∷ [],
+      refl,
+      (t.to, ap (λ k. record { from = t.from; to = t.to; kind = k } ∷ []) e),
+      ([], ([], token 0 (kind.Punct CloseBrace) ∷ [], refl, refl, (0, refl, (0, refl)))),
+    ),
+  ),
 )
 
 no_list : (c : Bool) → Exact 0 0 (list_at c 0) (ListIs c) is_bracket anything

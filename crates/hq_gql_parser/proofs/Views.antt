@@ -10,10 +10,14 @@ use Rattle.hq_gql_tree.specs.Selections.{SelectionTree, field, inline, FieldTree
 
 pub field_seen : (f : Field-F Selection Field Inline) → selection_view (selections.Field (roll-Field f))
     ≡ field
-      (record
-         { at = f.at; alias = f.alias; name = f.name; args = map argument_view f.args.items;
-            directives = map directive_view f.directives.items })
-      (selections_of (map selection_view f.selections.items))
+    (record {
+      at = f.at;
+      alias = f.alias;
+      name = f.name;
+      args = map argument_view f.args.items;
+      directives = map directive_view f.directives.items;
+    })
+    (selections_of (map selection_view f.selections.items))
 unfolding roll-Selection denote.Hole.Carrier.roll
 field_seen f =
     fold-roll-Selection SelectionTree FieldTree InlineTree selection_step field_step inline_step (Selection-F.Field (roll-Field f))

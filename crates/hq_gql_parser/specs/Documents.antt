@@ -72,13 +72,13 @@ place end (t ∷ ts) = t.from
 abbrev pub IsUnexpected : (end : ℕ) → List Token → (at : ℕ) → Type 0
 IsUnexpected end ts at =
     (front : List Token) × (rest : List Token) × (ts ≢ []) × (ts ≡ front ++ rest) × (at ≡ place end rest) × BeginsDocument front
-      × NoneGoesOn front rest × ((n : ℕ) × (brackets_left nesting_limit front ≡ Some n))
+    × NoneGoesOn front rest × ((n : ℕ) × (brackets_left nesting_limit front ≡ Some n))
 
 -- A document begins with the tokens up to this one, and it is the first bracket that is one too many.
 abbrev pub IsTooDeep : List Token → (at : ℕ) → Type 0
 IsTooDeep ts at =
     (front : List Token) × (t : Token) × (rest : List Token) × (ts ≡ front ++ (t ∷ rest)) × (at ≡ t.from) × BeginsDocument (front ++ t ∷ [])
-      × (brackets_left nesting_limit front ≡ Some 0) × (left_behind t.kind 0 ≡ None)
+    × (brackets_left nesting_limit front ≡ Some 0) × (left_behind t.kind 0 ≡ None)
 
 -- the answers that are due
 abbrev pub Parses : (end : ℕ) → List Token → Result DocumentTree ParseRefusal → Type 0

@@ -56,8 +56,8 @@ pub responds : (deny : List Header → Type 0) (give : List Header → List ℕ 
     (b : List ℕ) (headers : List HeaderSpan) (request : WholeRequest) (g : Response)
     → Holds b (Whole request) → SpansAre (window b) headers request
     → MayRespond (deny (headers_in (map (header_bytes (window b)) (take request.fields headers))))
-      (give (headers_in (map (header_bytes (window b)) (take request.fields headers))) (drop request.body (take request.len b)))
-      request.place g
+    (give (headers_in (map (header_bytes (window b)) (take request.fields headers))) (drop request.body (take request.len b)))
+    request.place g
     → Responds deny give b request g
 responds deny give b headers request g holds_next spans gives =
     let p = parts b request holds_next in
@@ -98,7 +98,7 @@ responds_at deny give b w headers fs text body request g ew ef er eb holds_next 
     let one : MayRespond (deny (headers_in (map (header_bytes w) fs))) (give (headers_in (map (header_bytes w) fs)) (drop request.body (take request.len b))) request.place g =
     subst (λ (x : List ℕ). MayRespond (deny (headers_in (map (header_bytes w) fs))) (give (headers_in (map (header_bytes w) fs)) x) request.place g) eb' gives in
     responds deny give b headers request g holds_next spans
-      (subst
-         (λ (x : List (List ℕ × List ℕ)). MayRespond (deny (headers_in x)) (give (headers_in x) (drop request.body (take request.len b)))
-            request.place g)
-         e one)
+    (subst
+    (λ (x : List (List ℕ × List ℕ)). MayRespond (deny (headers_in x)) (give (headers_in x) (drop request.body (take request.len b)))
+    request.place g)
+    e one)

@@ -57,7 +57,7 @@ served deny give counts over n b b' old new request g Whole true le e response c
       wrote = writes;
       ends =
           closed (record { head = response.head; body = response.body; request = request; response = g; ends = true }) (drop request.len b)
-            (response.exchange true) e refl count response.all refl refl;
+          (response.exchange true) e refl count response.all refl refl;
     }
 served deny give counts over n b b' old new request g Fault closes le e response count rest writes =
     record {
@@ -65,7 +65,7 @@ served deny give counts over n b b' old new request g Fault closes le e response
       wrote = writes.2;
       ends =
           reply_fault (record { head = response.head; body = response.body; request = request; response = g; ends = closes })
-            (drop request.len b) writes.0 (response.exchange closes) e count response.all refl refl;
+          (drop request.len b) writes.0 (response.exchange closes) e count response.all refl refl;
     }
 served deny give counts over n b b' old new request g Memory closes le e response count rest writes =
     record { out = []; wrote = appends_nothing old new writes; ends = memory refl refl }

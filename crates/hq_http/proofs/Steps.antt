@@ -59,8 +59,8 @@ stepped_refused deny give counts n a b d xs ys old mid new hs c is_head e w firs
       consumed = subst (λ (x : Option (List ℕ)). Consumes a x w.piece) (sym same) w.consumed;
       served =
           refused_stops deny give counts (IsAtEnd d) n (xs ++ w.piece) old new c is_head e
-            (subst (λ (x : List ℕ). Holds x (Refused c is_head)) w.added w.holds)
-            (subst (λ (x : Option (List ℕ)). RefusedAs x new c is_head e) first r);
+          (subst (λ (x : List ℕ). Holds x (Refused c is_head)) w.added w.holds)
+          (subst (λ (x : Option (List ℕ)). RefusedAs x new c is_head e) first r);
     }
 
 over_stops : (deny : List Header → Type 0) (give : List Header → List ℕ → Reply → Type 0) (counts : Response → Type 0) (over : Type 0) (n : ℕ)

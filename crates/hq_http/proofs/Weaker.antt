@@ -32,7 +32,7 @@ exchange_weaker d d' v v' f h e x =
       body = x.body;
       responds =
           may_respond_weaker (d (headers_of e.head)) (d' (headers_of e.head)) (v (headers_of e.head) e.body) (v' (headers_of e.head) e.body)
-            e.request.place e.response (f (headers_of e.head)) (h (headers_of e.head) e.body) x.responds;
+          e.request.place e.response (f (headers_of e.head)) (h (headers_of e.head) e.body) x.responds;
     }
 
 pub ending_weaker : (d d' : List Header → Type 0) (v v' : List Header → List ℕ → Reply → Type 0) (k k' : Response → Type 0) (over : Type 0) (n : ℕ) (rest out : List ℕ) (e : ConnEnd)

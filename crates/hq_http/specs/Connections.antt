@@ -127,13 +127,13 @@ pub data Ending (deny : List Header → Type 0) (give : List Header → List ℕ
   between : rest ≡ [] → out ≡ [] → over → e ≡ end.Ended → Ending deny give counts over n rest out e
   cut : (need : ℕ) → Holds rest (next.More need) → 0 < length rest → out ≡ [] → over → e ≡ end.Cut (length rest) → Ending deny give counts over n rest out e
   closed : (x : Exchange) (more : List ℕ) → IsExchange deny give x → x.ends ≡ (x.request.closes || n == 999) → x.ends ≡ true
-    → counts x.response → rest ≡ request_bytes x ++ more → out ≡ due_bytes x → e ≡ (if n == 999 then end.Spent else end.Ended)
-    → Ending deny give counts over n rest out e
+      → counts x.response → rest ≡ request_bytes x ++ more → out ≡ due_bytes x → e ≡ (if n == 999 then end.Spent else end.Ended)
+      → Ending deny give counts over n rest out e
   refused : (f : Fault) (is_head : Bool) → Holds rest (next.Refused f is_head) → out ≡ refusal_bytes f is_head → e ≡ end.Refused (number_of f) → Ending deny give counts over n rest out e
   read_fault : (need : ℕ) → Holds rest (next.More need) → out ≡ [] → e ≡ end.ReadFault → Ending deny give counts over n rest out e
   reply_fault : (x : Exchange) (more : List ℕ) (k : ℕ) → IsExchange deny give x → x.ends ≡ (x.request.closes || n == 999)
-    → counts x.response → rest ≡ request_bytes x ++ more → out ≡ take k (due_bytes x) → e ≡ end.WriteFault
-    → Ending deny give counts over n rest out e
+      → counts x.response → rest ≡ request_bytes x ++ more → out ≡ take k (due_bytes x) → e ≡ end.WriteFault
+      → Ending deny give counts over n rest out e
   refusal_fault : (f : Fault) (is_head : Bool) (k : ℕ) → Holds rest (next.Refused f is_head) → out ≡ take k (refusal_bytes f is_head) → e ≡ end.WriteFault → Ending deny give counts over n rest out e
   memory : out ≡ [] → e ≡ end.Memory → Ending deny give counts over n rest out e
 

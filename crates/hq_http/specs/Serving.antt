@@ -35,7 +35,7 @@ pub record Responds (deny : List Header → Type 0) (give : List Header → List
 
 -- a request after which the connection goes on
 pub record Going (deny : List Header → Type 0) (give : List Header → List ℕ → Reply → Type 0) (counts : Response → Type 0) (n : ℕ)
-  (at_hand at_hand' : List ℕ) (written written' : Option (List ℕ)) : Type 0 where
+    (at_hand at_hand' : List ℕ) (written written' : Option (List ℕ)) : Type 0 where
   pub x : Exchange
   pub exchange : IsExchange deny give x
   pub open_end : x.ends ≡ false
@@ -47,14 +47,14 @@ pub record Going (deny : List Header → Type 0) (give : List Header → List �
 
 -- an end
 pub record Stopping (deny : List Header → Type 0) (give : List Header → List ℕ → Reply → Type 0) (counts : Response → Type 0)
-  (over : Type 0) (n : ℕ) (at_hand : List ℕ) (written written' : Option (List ℕ)) (e : ConnEnd) : Type 0 where
+    (over : Type 0) (n : ℕ) (at_hand : List ℕ) (written written' : Option (List ℕ)) (e : ConnEnd) : Type 0 where
   pub out : List ℕ
   pub wrote : Appends written written' out
   pub ends : Ending deny give counts over n at_hand out e
 
 -- the request at the front of the bytes at hand was served
 abbrev pub ServedAs : (List Header → Type 0) → (List Header → List ℕ → Reply → Type 0) → (Response → Type 0) → Type 0 → ℕ
-  → (at_hand at_hand' : List ℕ) → (written written' : Option (List ℕ)) → Step → Type 0
+    → (at_hand at_hand' : List ℕ) → (written written' : Option (List ℕ)) → Step → Type 0
 ServedAs deny give counts over n at_hand at_hand' written written' step.GoesOn = Going deny give counts n at_hand at_hand' written written'
 ServedAs deny give counts over n at_hand at_hand' written written' (step.Ends e) = Stopping deny give counts over n at_hand written written' e
 
@@ -82,14 +82,14 @@ over_as (b ∷ bs) = end.Cut (length (b ∷ bs))
 
 -- the next request was read, and served
 pub record Stepped (deny : List Header → Type 0) (give : List Header → List ℕ → Reply → Type 0) (counts : Response → Type 0) (n : ℕ)
-  (left left' : Option (List ℕ)) (at_hand at_hand' : List ℕ) (written written' : Option (List ℕ)) (s : Step) : Type 0 where
+    (left left' : Option (List ℕ)) (at_hand at_hand' : List ℕ) (written written' : Option (List ℕ)) (s : Step) : Type 0 where
   pub piece : List ℕ
   pub consumed : Consumes left left' piece
   pub served : ServedAs deny give counts (IsAtEnd left') n (at_hand ++ piece) at_hand' written written' s
 
 -- n requests were served, and these bytes are at hand
 pub record Ran (deny : List Header → Type 0) (give : List Header → List ℕ → Reply → Type 0) (faults faults' : ℕ) (n : ℕ)
-  (left left' : Option (List ℕ)) (at_hand : List ℕ) (written written' : Option (List ℕ)) : Type 0 where
+    (left left' : Option (List ℕ)) (at_hand : List ℕ) (written written' : Option (List ℕ)) : Type 0 where
   pub done : List Exchange
   pub count : length done ≡ n
   pub few : n ≤ 999

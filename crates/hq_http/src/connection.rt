@@ -91,8 +91,8 @@ fn serve_whole<L: Link, H: Responder>(
     requires few { done ≤ 999 }
     ensures ready { H.ready responder.new }
     ensures served { ServedAs (H.may_deny responder.old) (H.may_give responder.old)
-          (λ r. Counts (H.faults responder.old) (failures_of r) (H.faults responder.new)) (IsAtEnd (L.left link.old)) done pending.old
-          pending.new (L.written link.old) (L.written link.new) result }
+        (λ r. Counts (H.faults responder.old) (failures_of r) (H.faults responder.new)) (IsAtEnd (L.left link.old)) done pending.old
+        pending.new (L.written link.old) (L.written link.new) result }
     ensures later { H.faults responder.old ≤ H.faults responder.new }
     ensures same_deny { (headers : List Header) → H.may_deny responder.new headers → H.may_deny responder.old headers }
     ensures same_give { (headers : List Header) (body : List ℕ) (reply : Reply) → H.may_give responder.new headers body reply → H.may_give responder.old headers body reply }
@@ -136,8 +136,8 @@ fn take_step<L: Link, H: Responder>(
     requires few { done ≤ 999 }
     ensures ready { H.ready responder.new }
     ensures stepped { Stepped (H.may_deny responder.old) (H.may_give responder.old)
-          (λ r. Counts (H.faults responder.old) (failures_of r) (H.faults responder.new)) done (L.left link.old) (L.left link.new)
-          pending.old pending.new (L.written link.old) (L.written link.new) result }
+        (λ r. Counts (H.faults responder.old) (failures_of r) (H.faults responder.new)) done (L.left link.old) (L.left link.new)
+        pending.old pending.new (L.written link.old) (L.written link.new) result }
     ensures later { H.faults responder.old ≤ H.faults responder.new }
     ensures same_deny { (headers : List Header) → H.may_deny responder.new headers → H.may_deny responder.old headers }
     ensures same_give { (headers : List Header) (body : List ℕ) (reply : Reply) → H.may_give responder.new headers body reply → H.may_give responder.old headers body reply }
@@ -177,7 +177,7 @@ pub fn serve_connection<L: Link, H: Responder>(
 
     // What was read, answered and written, and how it ended.
     ensures connects { Connects (H.may_deny responder.old) (H.may_give responder.old) (H.faults responder.old) (H.faults responder.new) (L.left link.old)
-          (L.left link.new) (L.written link.old) (L.written link.new) result }
+        (L.left link.new) (L.written link.old) (L.written link.new) result }
 
     // A failure is told only where that count of the link rose.
     ensures read { result ≡ ConnEnd.ReadFault → Rose (L.read_faults link.old) (L.read_faults link.new) }

@@ -69,7 +69,7 @@ fn ask_responder<H: Responder>(
     requires small { length body.now ≤ 1048576 }
     ensures ready { H.ready responder.new }
     ensures responds { MayRespond (H.may_deny responder.old (headers_in (map (header_bytes head.now) fields.now)))
-          (H.may_give responder.old (headers_in (map (header_bytes head.now) fields.now)) body.now) Place.Graphql result }
+        (H.may_give responder.old (headers_in (map (header_bytes head.now) fields.now)) body.now) Place.Graphql result }
     ensures failures { Counts (H.faults responder.old) (failures_of result) (H.faults responder.new) }
     ensures later { H.faults responder.old ≤ H.faults responder.new }
     ensures same_deny { (headers : List Header) → H.may_deny responder.new headers → H.may_deny responder.old headers }
@@ -100,7 +100,7 @@ pub fn respond_at<H: Responder>(
     requires small { length body.now ≤ 1048576 }
     ensures ready { H.ready responder.new }
     ensures responds { MayRespond (H.may_deny responder.old (headers_in (map (header_bytes head.now) fields.now)))
-          (H.may_give responder.old (headers_in (map (header_bytes head.now) fields.now)) body.now) place result }
+        (H.may_give responder.old (headers_in (map (header_bytes head.now) fields.now)) body.now) place result }
     ensures failures { Counts (H.faults responder.old) (failures_of result) (H.faults responder.new) }
     ensures later { H.faults responder.old ≤ H.faults responder.new }
     ensures same_deny { (headers : List Header) → H.may_deny responder.new headers → H.may_deny responder.old headers }

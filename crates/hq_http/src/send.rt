@@ -37,12 +37,16 @@ pub fn send_response<L: Link>(
     closes: bool,
 ) -> Sent
     ensures writes { Writes (L.written link.old) (L.written link.new)
-          (reply_bytes
-             (record
-                { status = response_status response.now; plain = response_is_plain response.now; place = request.place; closes = closes;
-                   is_head = request.is_head })
-             (response_text response.now))
-          result }
+        (reply_bytes
+        (record {
+          status = response_status response.now;
+          plain = response_is_plain response.now;
+          place = request.place;
+          closes = closes;
+          is_head = request.is_head;
+        })
+        (response_text response.now))
+        result }
     ensures fault { result ≡ Sent.Fault → Rose (L.write_faults link.old) (L.write_faults link.new) }
     ensures later { L.write_faults link.old ≤ L.write_faults link.new }
     ensures left { L.left link.new ≡ L.left link.old }

@@ -65,8 +65,8 @@ pub record Announces (h : RequestHead) (request : WholeRequest) : Type 0 where
 pub data Holds (bytes : List ℕ) (n : Next) : Type 0 where
   whole : (h : RequestHead) (request : WholeRequest) → HasHead bytes h → Announces h request → request.len ≤ length bytes → n ≡ next.Whole request → Holds bytes n
   without_body : (h : RequestHead) (need : ℕ) → HasHead bytes h → refusal_of h.method h.minor (fields_of h) ≡ None
-    → body_length_of h ≤ 1048576 → need ≡ length (print_request h) + body_length_of h → length bytes < need → n ≡ next.More need
-    → Holds bytes n
+      → body_length_of h ≤ 1048576 → need ≡ length (print_request h) + body_length_of h → length bytes < need → n ≡ next.More need
+      → Holds bytes n
   refused : (h : RequestHead) (c : Fault) → HasHead bytes h → refusal_of h.method h.minor (fields_of h) ≡ Some c → n ≡ next.Refused c (bytes_eq h.method (codes "HEAD")) → Holds bytes n
   begun : length bytes < 16384 → HasNoRequest (window bytes) → MayBecomeRequest (window bytes) → n ≡ next.More (length bytes + 1) → Holds bytes n
   large : 16384 ≤ length bytes → HasNoRequest (window bytes) → MayBecomeRequest (window bytes) → n ≡ next.Refused fault.HeadTooLarge false → Holds bytes n

@@ -35,5 +35,5 @@ ascends_counted {R} o from (suc (suc n)) to e h =
 pub sorted_already : (columns : List ℕ) (rows : List (List Val)) (at : ℕ) → length rows ≤ at → StepsAscend (by_key columns rows) 0 at → sorted_rows columns rows ≡ counted 0 (length rows)
 sorted_already columns rows at whole h =
     sort_ascending (by_key_total columns rows) (counted 0 (length rows))
-      (ascends_counted (by_key_total columns rows) 0 (length rows) (length rows) (omega arith)
-         (λ i low below. h i low (omega (arith, whole, below))))
+    (ascends_counted (by_key_total columns rows) 0 (length rows) (length rows) (omega arith)
+    (λ i low below. h i low (omega (arith, whole, below))))

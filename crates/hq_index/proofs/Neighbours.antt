@@ -166,7 +166,7 @@ last_or_earlier p m lt = elim (eqb_tells p m) [ inl is ↦ inl is.1 | inr other 
 
 -- a further pair with two keys
 pair_differs : (same : ℕ → ℕ → Bool) (s : List ℕ) (m : ℕ) (found : Option Repeat) → same (get_or s m 0) (get_or s (suc m) 0) ≡ false
-  → LeastPair same s (suc m) found → LeastPair same s (suc (suc m)) found
+    → LeastPair same s (suc m) found → LeastPair same s (suc (suc m)) found
 pair_differs same s m None other h =
     λ p lt within. (elim (last_or_earlier p m lt) [
       | inl is ↦ ap (λ p. same (get_or s p 0) (get_or s (suc p) 0)) is ∙ other
@@ -201,7 +201,7 @@ pair_is_least same s m pair within earlier row alike least = record {
 
 -- a further pair with one key
 pair_repeats : (same : ℕ → ℕ → Bool) (s : List ℕ) (m : ℕ) (found : Option Repeat) (pair : Repeat) → suc m < length s
-  → get_or s m 0 ≡ pair.earlier → get_or s (suc m) 0 ≡ pair.row → same pair.earlier pair.row ≡ true
+    → get_or s m 0 ≡ pair.earlier → get_or s (suc m) 0 ≡ pair.row → same pair.earlier pair.row ≡ true
     → LeastPair same s (suc m) found → LeastPair same s (suc (suc m)) (nearer found pair)
 pair_repeats same s m None pair within earlier row alike h =
     pair_is_least same s m pair within earlier row alike (λ p lt inside e. absurd (true≢false (sym e ∙ h p lt inside)))
@@ -267,8 +267,8 @@ module _ (columns : List ℕ) (rows : List (List Val)) where
   -- a row with the key of an earlier one: some pair of neighbours has one key, and its second is not behind that row
   repeat_seen : (i j : ℕ) → i < j → j < length rows → is_eq (R i j) ≡ true
       → (p : ℕ) × (suc p < length (sorted_rows columns rows))
-        × (is_eq (R (get_or (sorted_rows columns rows) p 0) (get_or (sorted_rows columns rows) (suc p) 0)) ≡ true)
-        × (get_or (sorted_rows columns rows) (suc p) 0 ≤ j)
+      × (is_eq (R (get_or (sorted_rows columns rows) p 0) (get_or (sorted_rows columns rows) (suc p) 0)) ≡ true)
+      × (get_or (sorted_rows columns rows) (suc p) 0 ≤ j)
   repeat_seen i j lt below e =
       let q : ℕ → Bool = λ z. is_eq (R i z) in
       let k : ℕ = j - suc i in
@@ -322,9 +322,9 @@ module _ (columns : List ℕ) (rows : List (List Val)) where
             let go : (b : Bool) → is_eq (R i j) ≡ b → is_eq (R i j) ≡ false =
             elim [
               | true
-                ↦ λ e.
+                  ↦ λ e.
                   (let seen = repeat_seen i j lt (omega (arith, under, below)) e in let within = seen.1 in let most = seen.3 in let bound =
-                     least.least seen.0 (omega (arith, within, long)) seen.1 seen.2 in absurd (omega (arith, bound, most, under)))
+                  least.least seen.0 (omega (arith, within, long)) seen.1 seen.2 in absurd (omega (arith, bound, most, under)))
               | false ↦ λ e. e
             ] in
             go (is_eq (R i j)) refl;

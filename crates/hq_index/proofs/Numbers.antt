@@ -41,5 +41,5 @@ sorted_numbers column rows numbers all h =
 
 -- keys without NULL, sorted alone or among all
 pub indexed_sorted : (columns : List ℕ) (rows : List (List Val)) (count : ℕ) → count ≡ length rows
-  → sort (by_key columns rows) (filter (λ n. not (has_null (key_at columns rows n))) (counted 0 count)) ≡ indexed_rows columns rows
+    → sort (by_key columns rows) (filter (λ n. not (has_null (key_at columns rows n))) (counted 0 count)) ≡ indexed_rows columns rows
 indexed_sorted columns rows count is = rw is (sym (sort_filter (by_key_total columns rows) (λ n. not (has_null (key_at columns rows n))) (counted 0 (length rows))))

@@ -28,8 +28,8 @@ module _ {A : Type 0} (R : A → A → Ordering) (q : A → Bool) where
   class_put h x (y ∷ ys) =
       let ih = class_put h x ys in
       let go : (g b c : Bool) → is_gt (R x y) ≡ g → q x ≡ b → q y ≡ c
-        → filter q (cond g (y ∷ put R x ys) (x ∷ (y ∷ ys)))
-          ≡ cond b (x ∷ cond c (y ∷ filter q ys) (filter q ys)) (cond c (y ∷ filter q ys) (filter q ys)) =
+      → filter q (cond g (y ∷ put R x ys) (x ∷ (y ∷ ys)))
+      ≡ cond b (x ∷ cond c (y ∷ filter q ys) (filter q ys)) (cond c (y ∷ filter q ys) (filter q ys)) =
       elim [
         | true ↦ elim [
           | true ↦ elim [ true ↦ λ e f k. (let z = h x y f k in cc) | false ↦ λ e f k. rw k (ih ∙ (rw f refl)) ]
@@ -97,13 +97,13 @@ module _ (columns : List ℕ) (rows : List (List Val)) where
 
   -- two rows that have one key are not greater than one another
   one_class : (key : List CellTree) (x y : ℕ) → (not (has_null key) && is_eq (keys_cmp (key_at columns rows x) key)) ≡ true
-    → (not (has_null key) && is_eq (keys_cmp (key_at columns rows y) key)) ≡ true → is_gt (by_key columns rows x y) ≡ false
+      → (not (has_null key) && is_eq (keys_cmp (key_at columns rows y) key)) ≡ true → is_gt (by_key columns rows x y) ≡ false
   one_class key x y e f =
       let first = (Equal-is (keys_cmp (key_at columns rows x) key)).0 (and_parts (not (has_null key)) (is_eq (keys_cmp (key_at columns rows x) key)) e).1 in
       let second = (Equal-is (keys_cmp (key_at columns rows y) key)).0 (and_parts (not (has_null key)) (is_eq (keys_cmp (key_at columns rows y) key)) f).1 in
       let tied : keys_cmp (key_at columns rows x) (key_at columns rows y) ≡ Equal =
-          keys_cmp_total.congr (key_at columns rows x) key (key_at columns rows y) first
-            ∙ tied_back keys_cmp_total (key_at columns rows y) key second in
+      keys_cmp_total.congr (key_at columns rows x) key (key_at columns rows y) first
+      ∙ tied_back keys_cmp_total (key_at columns rows y) key second in
       ap is_gt tied
 
   -- the entries have, of each key, the rows that have it, in file order
@@ -143,7 +143,7 @@ pub climbs : (columns : List ℕ) (rows : List (List Val)) (key : List CellTree)
 climbs columns rows key after entries i j is below lt e =
     let sorted = sort (by_key columns rows) (counted 0 (length rows)) in
     let ascending : Ascends (by_key columns rows) entries =
-        rw is
-          (ascends_filter (by_key columns rows) (λ n. not (has_null (key_at columns rows n))) sorted
-             (ascends_sort (by_key_total columns rows) (counted 0 (length rows)))) in
+    rw is
+    (ascends_filter (by_key columns rows) (λ n. not (has_null (key_at columns rows n))) sorted
+    (ascends_sort (by_key_total columns rows) (counted 0 (length rows)))) in
     before_down (key_at columns rows (get_or entries i 0)) (key_at columns rows (get_or entries j 0)) key after (ascends_at (by_key columns rows) entries i j 0 ascending below lt) e

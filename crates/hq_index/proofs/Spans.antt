@@ -18,7 +18,7 @@ kept_none q (x ∷ xs) h = rw (h 0 x (omega arith)) (kept_none q xs (λ i d lt. 
 -- its middle part is what the test keeps
 span_is : {A : Type 0} (q : A → Bool) (xs : List A) (from n : ℕ) → from + n ≤ length xs
     → ((i : ℕ) (d : A) → i < from → q (get_or xs i d) ≡ false) → ((i : ℕ) (d : A) → from ≤ i → i < from + n → q (get_or xs i d) ≡ true)
-      → ((i : ℕ) (d : A) → from + n ≤ i → i < length xs → q (get_or xs i d) ≡ false)
+    → ((i : ℕ) (d : A) → from + n ≤ i → i < length xs → q (get_or xs i d) ≡ false)
     → take n (drop from xs) ≡ filter q xs
 span_is q [] zero zero lt a b c = refl
 span_is q [] zero (suc n) lt a b c = absurd (omega arith)
@@ -26,13 +26,13 @@ span_is q [] (suc from) n lt a b c = absurd (omega arith)
 span_is q (x ∷ xs) zero zero lt a b c = sym (kept_none q (x ∷ xs) (λ i d k. c i d (omega arith) k))
 span_is q (x ∷ xs) zero (suc n) lt a b c =
     rw (b 0 x (omega arith) (omega arith))
-      (ap (λ l. x ∷ l)
-         (span_is q xs 0 n (omega arith) (λ i d k. absurd (omega arith)) (λ i d k m. b (suc i) d (omega arith) (omega arith))
-            (λ i d k m. c (suc i) d (omega arith) (omega arith))))
+    (ap (λ l. x ∷ l)
+    (span_is q xs 0 n (omega arith) (λ i d k. absurd (omega arith)) (λ i d k m. b (suc i) d (omega arith) (omega arith))
+    (λ i d k m. c (suc i) d (omega arith) (omega arith))))
 span_is q (x ∷ xs) (suc from) n lt a b c =
     rw (a 0 x (omega arith))
-      (span_is q xs from n (omega arith) (λ i d k. a (suc i) d (omega arith)) (λ i d k m. b (suc i) d (omega arith) (omega arith))
-         (λ i d k m. c (suc i) d (omega arith) (omega arith)))
+    (span_is q xs from n (omega arith) (λ i d k. a (suc i) d (omega arith)) (λ i d k m. b (suc i) d (omega arith) (omega arith))
+    (λ i d k m. c (suc i) d (omega arith) (omega arith)))
 
 same_default : {A : Type 0} (xs : List A) (i : ℕ) (d e : A) → i < length xs → get_or xs i d ≡ get_or xs i e
 same_default [] i d e lt = absurd (omega arith)
@@ -71,8 +71,8 @@ places_span columns rows entries key from to is whole f t le =
     span_is q entries from (to - from) (omega arith)
     (λ i d lt. ap q (at_default i d (omega arith)) ∙ and_false (not (has_null key)) _ (first_is (keys_cmp (key_at columns rows (get_or entries i 0)) key) (f.before i lt)))
     (λ i d ge lt. ap q (at_default i d (omega arith))
-       ∙ here (get_or entries i 0)
-         (middle_is (keys_cmp (key_at columns rows (get_or entries i 0)) key) (f.behind i ge (omega arith)) (t.before i (omega arith))))
+    ∙ here (get_or entries i 0)
+    (middle_is (keys_cmp (key_at columns rows (get_or entries i 0)) key) (f.behind i ge (omega arith)) (t.before i (omega arith))))
     (λ i d ge lt. ap q (at_default i d lt) ∙ and_false (not (has_null key)) _ (last_is (keys_cmp (key_at columns rows (get_or entries i 0)) key) (t.behind i (omega arith) lt)))
     ∙ ap (filter q) is ∙ indexed_with columns rows key
 
@@ -125,7 +125,7 @@ module _ (columns : List ℕ) (rows : List (List Val)) (key : List CellTree) (af
       elim [
         | true ↦ λ e. let z : Stands m true =
             ⊎_elim (λ less. climbs columns rows key after entries m i is less lt e)
-              (λ ge. let same : i ≡ m = omega arith in subst (λ k. Stands k true) same e) (cases_lt m i) in cc
+            (λ ge. let same : i ≡ m = omega arith in subst (λ k. Stands k true) same e) (cases_lt m i) in cc
         | false ↦ λ e. e
       ] in
       go (stands_before columns rows key after (get_or entries i 0)) refl

@@ -4,9 +4,9 @@ use Rattle.std.proofs.lemmas.List.{take_more, map-append}
 
 -- the items' values so far, and that of the next, where a list's values are those of its front and that of its last item
 pub values-more : {A B V : Type 0} (view : B → V) (values : List A → List V) (value : A → V)
-  → ((ys : List A) (y : A) → values (ys ++ y ∷ []) ≡ values ys ++ value y ∷ []) → (xs : List A) (i : ℕ) (d : A) (done more : List B) (y : B)
-  → map view done ≡ values (take i xs) → i < length xs → view y ≡ value (get_or xs i d) → more ≡ done ++ y ∷ []
-  → map view more ≡ values (take (i + 1) xs)
+    → ((ys : List A) (y : A) → values (ys ++ y ∷ []) ≡ values ys ++ value y ∷ []) → (xs : List A) (i : ℕ) (d : A) (done more : List B) (y : B)
+    → map view done ≡ values (take i xs) → i < length xs → view y ≡ value (get_or xs i d) → more ≡ done ++ y ∷ []
+    → map view more ≡ values (take (i + 1) xs)
 values-more view values value adds xs i d done more y so_far below given grows =
     ap (map view) grows
     ∙ map-append view done (y ∷ [])

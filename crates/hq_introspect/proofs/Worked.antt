@@ -90,25 +90,25 @@ root : of_type (codes "query_root")
     (under (codes "fields")
     (under (codes "args") (plain (codes "name") ∷ plain (codes "defaultValue") ∷ [])
     ∷ under (codes "type")
-        (plain (codes "kind") ∷ plain (codes "name")
-           ∷ under (codes "ofType")
-             (plain (codes "kind")
-                ∷ under (codes "ofType")
-                  (plain (codes "kind")
-                     ∷ under (codes "ofType") (plain (codes "name") ∷ under (codes "ofType") (plain (codes "name") ∷ []) ∷ []) ∷ [])
-                ∷ [])
-           ∷ [])
-      ∷ [])
+    (plain (codes "kind") ∷ plain (codes "name")
+    ∷ under (codes "ofType")
+    (plain (codes "kind")
+    ∷ under (codes "ofType")
+    (plain (codes "kind")
+    ∷ under (codes "ofType") (plain (codes "name") ∷ under (codes "ofType") (plain (codes "name") ∷ []) ∷ []) ∷ [])
+    ∷ [])
+    ∷ [])
+    ∷ [])
     ∷ [])
     ≡ codes
-      "{\"fields\":[{\"args\":[{\"name\":\"limit\",\"defaultValue\":null},{\"name\":\"old\",\"defaultValue\":\"false\"}],\"type\":{\"kind\":\"NON_NULL\",\"name\":null,\"ofType\":{\"kind\":\"LIST\",\"ofType\":{\"kind\":\"NON_NULL\",\"ofType\":{\"name\":\"author\",\"ofType\":null}}}}}]}"
+    "{\"fields\":[{\"args\":[{\"name\":\"limit\",\"defaultValue\":null},{\"name\":\"old\",\"defaultValue\":\"false\"}],\"type\":{\"kind\":\"NON_NULL\",\"name\":null,\"ofType\":{\"kind\":\"LIST\",\"ofType\":{\"kind\":\"NON_NULL\",\"ofType\":{\"name\":\"author\",\"ofType\":null}}}}}]}"
 unfolding answered resolved field_named field_text kind_text escaped
 root = refl
 
 -- an enum, an input object, a scalar, and a name that no type has
 order_by : of_type (codes "order_by")
-  (plain (codes "kind") ∷ under (codes "enumValues") (plain (codes "name") ∷ plain (codes "deprecationReason") ∷ [])
-     ∷ under (codes "fields") (plain (codes "name") ∷ []) ∷ [])
+    (plain (codes "kind") ∷ under (codes "enumValues") (plain (codes "name") ∷ plain (codes "deprecationReason") ∷ [])
+    ∷ under (codes "fields") (plain (codes "name") ∷ []) ∷ [])
     ≡ codes "{\"kind\":\"ENUM\",\"enumValues\":[{\"name\":\"asc\",\"deprecationReason\":null},{\"name\":\"desc\",\"deprecationReason\":null}],\"fields\":null}"
 unfolding answered resolved field_named field_text kind_text escaped
 order_by = refl
@@ -119,8 +119,8 @@ unfolding answered resolved field_named field_text kind_text escaped
 sort = refl
 
 int : of_type (codes "Int")
-  (plain (codes "kind") ∷ under (codes "interfaces") (plain (codes "name") ∷ []) ∷ plain (codes "specifiedByURL")
-     ∷ under (codes "possibleTypes") (plain (codes "name") ∷ []) ∷ [])
+    (plain (codes "kind") ∷ under (codes "interfaces") (plain (codes "name") ∷ []) ∷ plain (codes "specifiedByURL")
+    ∷ under (codes "possibleTypes") (plain (codes "name") ∷ []) ∷ [])
     ≡ codes "{\"kind\":\"SCALAR\",\"interfaces\":null,\"specifiedByURL\":null,\"possibleTypes\":null}"
 unfolding answered resolved field_named field_text kind_text escaped
 int = refl
@@ -131,13 +131,13 @@ unknown = refl
 
 -- the two directives
 directives : of_schema
-  (under (codes "directives")
-       (plain (codes "name") ∷ plain (codes "isRepeatable") ∷ plain (codes "locations")
-          ∷ under (codes "args")
-            (plain (codes "name") ∷ under (codes "type") (plain (codes "kind") ∷ under (codes "ofType") (plain (codes "name") ∷ []) ∷ []) ∷ [])
-          ∷ [])
-     ∷ [])
+    (under (codes "directives")
+    (plain (codes "name") ∷ plain (codes "isRepeatable") ∷ plain (codes "locations")
+    ∷ under (codes "args")
+    (plain (codes "name") ∷ under (codes "type") (plain (codes "kind") ∷ under (codes "ofType") (plain (codes "name") ∷ []) ∷ []) ∷ [])
+    ∷ [])
+    ∷ [])
     ≡ codes
-      "{\"directives\":[{\"name\":\"include\",\"isRepeatable\":false,\"locations\":[\"FIELD\",\"FRAGMENT_SPREAD\",\"INLINE_FRAGMENT\"],\"args\":[{\"name\":\"if\",\"type\":{\"kind\":\"NON_NULL\",\"ofType\":{\"name\":\"Boolean\"}}}]},{\"name\":\"skip\",\"isRepeatable\":false,\"locations\":[\"FIELD\",\"FRAGMENT_SPREAD\",\"INLINE_FRAGMENT\"],\"args\":[{\"name\":\"if\",\"type\":{\"kind\":\"NON_NULL\",\"ofType\":{\"name\":\"Boolean\"}}}]}]}"
+    "{\"directives\":[{\"name\":\"include\",\"isRepeatable\":false,\"locations\":[\"FIELD\",\"FRAGMENT_SPREAD\",\"INLINE_FRAGMENT\"],\"args\":[{\"name\":\"if\",\"type\":{\"kind\":\"NON_NULL\",\"ofType\":{\"name\":\"Boolean\"}}}]},{\"name\":\"skip\",\"isRepeatable\":false,\"locations\":[\"FIELD\",\"FRAGMENT_SPREAD\",\"INLINE_FRAGMENT\"],\"args\":[{\"name\":\"if\",\"type\":{\"kind\":\"NON_NULL\",\"ofType\":{\"name\":\"Boolean\"}}}]}]}"
 unfolding answered resolved field_named field_text kind_text directive_text directive_locations types_by_name escaped
 directives = refl

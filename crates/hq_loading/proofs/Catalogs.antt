@@ -25,17 +25,17 @@ is_table-names tables t h =
     let full = list_all (λ c. holds_no_null (slice_get t.columns c)) t.key in
     let foreign = list_all (is_foreign_key tables t) t.foreign in
     second_so front differ
-      (first_so (front && differ) one
-         (first_so (front && differ && one) keys
-            (first_so (front && differ && one && keys) full (first_so (front && differ && one && keys && full) foreign h))))
+    (first_so (front && differ) one
+    (first_so (front && differ && one) keys
+    (first_so (front && differ && one && keys) full (first_so (front && differ && one && keys && full) foreign h))))
 
 pub is_catalog-names : (tables : List Table) (i : ℕ) (t : Table) → is_catalog tables ≡ true → i < length tables → t ≡ get_or tables i t → names_differ t.columns ≡ true
 is_catalog-names tables i t h within is =
     is_table-names tables t
-      (list_all-item (is_table tables) tables i t
-         (second_so (nat_le (length tables) 500 && all_differ (λ u v. bytes_eq (full_name u) (full_name v)) tables)
-            (list_all (is_table tables) tables) h)
-         within is)
+    (list_all-item (is_table tables) tables i t
+    (second_so (nat_le (length tables) 500 && all_differ (λ u v. bytes_eq (full_name u) (full_name v)) tables)
+    (list_all (is_table tables) tables) h)
+    within is)
 
 -- there are as many tables of rows as tables, and at most 500
 as_many : (tables : List Table) (d : List (List Row)) → is_database tables d ≡ true → length d ≡ length tables

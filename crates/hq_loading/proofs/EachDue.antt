@@ -14,20 +14,20 @@ mapped-cons ys y (Err e) = refl
 
 -- the value of the next item joins those so far
 each_due-next : {X Y E : Type 0} (f : X → Result Y E) (x : X) (rest : List X) (ys : List Y) (y : Y) → f x ≡ Ok y
-  → mapped (λ more. ys ++ more) (each_due f (x ∷ rest)) ≡ mapped (λ more. (ys ++ y ∷ []) ++ more) (each_due f rest)
+    → mapped (λ more. ys ++ more) (each_due f (x ∷ rest)) ≡ mapped (λ more. (ys ++ y ∷ []) ++ more) (each_due f rest)
 each_due-next f x rest ys y h =
     ap (λ r. mapped (λ more. ys ++ more) (and_then (λ z. mapped (λ more. z ∷ more) (each_due f rest)) r)) h ∙ mapped-cons ys y (each_due f rest)
 
 each_due-step : {X Y E : Type 0} (f : X → Result Y E) (xs : List X) (i : ℕ) (x : X) (ys : List Y) (y : Y) → i < length xs
-  → x ≡ get_or xs i x → f x ≡ Ok y
-  → mapped (λ more. ys ++ more) (each_due f (drop i xs)) ≡ mapped (λ more. (ys ++ y ∷ []) ++ more) (each_due f (drop (i + 1) xs))
+    → x ≡ get_or xs i x → f x ≡ Ok y
+    → mapped (λ more. ys ++ more) (each_due f (drop i xs)) ≡ mapped (λ more. (ys ++ y ∷ []) ++ more) (each_due f (drop (i + 1) xs))
 each_due-step f xs i x ys y within is h =
     let split : drop i xs ≡ x ∷ drop (i + 1) xs = rw add-one (drop-cons xs i x within ∙ ap (λ w. w ∷ drop (suc i) xs) (sym is)) in
     ap (λ w. mapped (λ more. ys ++ more) (each_due f w)) split ∙ each_due-next f x (drop (i + 1) xs) ys y h
 
 -- the same where what is due depends on what is told
 pub told-step : {W X Y E : Type 0} (before now : Option W) (f : W → X → Result Y E) (xs : List X) (i : ℕ) (x : X) (ys zs : List Y) (y : Y)
-  → i < length xs → x ≡ get_or xs i x → now ≡ before → zs ≡ ys ++ y ∷ []
+    → i < length xs → x ≡ get_or xs i x → now ≡ before → zs ≡ ys ++ y ∷ []
     → IfSome before (λ w. mapped (λ more. ys ++ more) (each_due (f w) (drop i xs)) ≡ each_due (f w) xs)
     → IfSome now (λ w. f w x ≡ Ok y)
     → IfSome before (λ w. mapped (λ more. zs ++ more) (each_due (f w) (drop (i + 1) xs)) ≡ each_due (f w) xs)
@@ -38,7 +38,7 @@ told-step (Some w) (Some v) f xs i x ys zs y within is same joins h k =
     ap (λ u. mapped (λ more. u ++ more) (each_due (f w) (drop (i + 1) xs))) joins ∙ sym (each_due-step (f w) xs i x ys y within is (subst (λ u. f u x ≡ Ok y) told k)) ∙ h
 
 each_due-refused : {X Y E : Type 0} (f : X → Result Y E) (xs : List X) (i : ℕ) (x : X) (ys : List Y) (e : E) → i < length xs
-  → x ≡ get_or xs i x → f x ≡ Err e → mapped (λ more. ys ++ more) (each_due f (drop i xs)) ≡ Err e
+    → x ≡ get_or xs i x → f x ≡ Err e → mapped (λ more. ys ++ more) (each_due f (drop i xs)) ≡ Err e
 each_due-refused f xs i x ys e within is h =
     let split : drop i xs ≡ x ∷ drop (i + 1) xs = rw add-one (drop-cons xs i x within ∙ ap (λ w. w ∷ drop (suc i) xs) (sym is)) in
     ap (λ w. mapped (λ more. ys ++ more) (each_due f w)) split ∙ ap (λ r. mapped (λ more. ys ++ more) (and_then (λ z. mapped (λ more. z ∷ more) (each_due f (drop (i + 1) xs))) r)) h
@@ -46,7 +46,7 @@ each_due-refused f xs i x ys e within is h =
 -- the refusal of an item is that of the list
 pub told-refused : {W X Y Z E : Type 0} (before now : Option W) (f : W → X → Result Y E) (xs : List X) (i : ℕ) (x : X) (ys : List Y)
     (e memory fault : E) (view : Z → List Y) (r : Result Z E)
-  → r ≡ Err e → i < length xs → x ≡ get_or xs i x → now ≡ before
+    → r ≡ Err e → i < length xs → x ≡ get_or xs i x → now ≡ before
     → IfSome before (λ w. mapped (λ more. ys ++ more) (each_due (f w) (drop i xs)) ≡ each_due (f w) xs)
     → IfSome now (λ w. (e ≡ memory) ⊎ ((e ≡ fault) ⊎ (f w x ≡ Err e)))
     → IfSome before (λ w. GivesUnless view memory fault (each_due (f w) xs) r)
@@ -63,7 +63,7 @@ both_so a b h k = cc
 
 -- a database of some tables, and the rows of one more
 is_database-more : (tables : List Table) (all : List (List Row)) (t : Table) (rows : List Row) → is_database tables all ≡ true
-  → are_rows t rows ≡ true → is_database (tables ++ t ∷ []) (all ++ rows ∷ []) ≡ true
+    → are_rows t rows ≡ true → is_database (tables ++ t ∷ []) (all ++ rows ∷ []) ≡ true
 is_database-more [] [] t rows h k = both_so (are_rows t rows) true k refl
 is_database-more [] (r ∷ all) t rows h k = cc
 is_database-more (u ∷ tables) [] t rows h k = cc
@@ -71,8 +71,8 @@ is_database-more (u ∷ tables) (r ∷ all) t rows h k =
     both_so (are_rows u r) _ (first_so (are_rows u r) (is_database tables all) h) (is_database-more tables all t rows (second_so (are_rows u r) (is_database tables all) h) k)
 
 pub is_database-taken : (tables : List Table) (i : ℕ) (all more : List (List Row)) (t : Table) (rows : List Row) → i < length tables
-  → t ≡ get_or tables i t → more ≡ all ++ rows ∷ [] → is_database (take i tables) all ≡ true → are_rows t rows ≡ true
-  → is_database (take (i + 1) tables) more ≡ true
+    → t ≡ get_or tables i t → more ≡ all ++ rows ∷ [] → is_database (take i tables) all ≡ true → are_rows t rows ≡ true
+    → is_database (take (i + 1) tables) more ≡ true
 is_database-taken tables i all more t rows within is joins h k =
     let split : take (i + 1) tables ≡ take i tables ++ t ∷ [] = rw add-one (take-suc tables i t within ∙ ap (λ w. take i tables ++ w ∷ []) (sym is)) in
     subst (λ ts. is_database ts more ≡ true) (sym split) (subst (λ d. is_database (take i tables ++ t ∷ []) d ≡ true) (sym joins) (is_database-more (take i tables) all t rows h k))

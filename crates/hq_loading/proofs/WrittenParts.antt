@@ -31,7 +31,7 @@ prefix_last a b c xs ys h k = subst (λ w. AppendsPrefix a c (xs ++ w)) (append-
 
 -- what was written after the other was written behind it
 pub wrote_both : {T E : Type 0} (a b c : Option (List ℕ)) (before between now : ℕ) (xs ys : List ℕ) (r : Result T E) → Appends a b xs
-  → before ≤ between → Wrote b c between now ys r → Wrote a c before now (xs ++ ys) r
+    → before ≤ between → Wrote b c between now ys r → Wrote a c before now (xs ++ ys) r
 wrote_both a b c before between now xs ys r h le w = record {
   ok = on_ok_weaker r (appends_both a b c xs ys h) w.ok;
   prefix = prefix_last a b c xs ys h w.prefix;
@@ -61,7 +61,7 @@ module _ {A : Type 0} (text : A → List ℕ) where
   bytes_of-split (part ∷ parts) zero d h = refl
   bytes_of-split (part ∷ parts) (suc i) d h =
       ap (λ w. text part ++ w) (bytes_of-split parts i d (omega arith))
-        ∙ sym (append_assoc (text part) (bytes_of (take i parts)) (text (get_or parts i d) ++ bytes_of (drop (suc i) parts)))
+      ∙ sym (append_assoc (text part) (bytes_of (take i parts)) (text (get_or parts i d) ++ bytes_of (drop (suc i) parts)))
 
   pub bytes_of-around : (parts : List A) (i : ℕ) (part : A) → i < length parts → part ≡ get_or parts i part → bytes_of parts ≡ bytes_of (take i parts) ++ (text part ++ bytes_of (drop (suc i) parts))
   bytes_of-around parts i part h is = bytes_of-split parts i part h ∙ ap (λ p. bytes_of (take i parts) ++ (text p ++ bytes_of (drop (suc i) parts))) (sym is)

@@ -15,7 +15,7 @@ some_named k [] = refl
 some_named k (n ∷ ns) = by (is_free_name n) (some_named (suc k) ns)
   where
     by : (b : Bool) → list_any (λ c. true) (named_from (suc k) ns) ≡ list_any is_free_name ns
-      → list_any (λ c. true) (cond b (k ∷ named_from (suc k) ns) (named_from (suc k) ns)) ≡ (b || list_any is_free_name ns)
+        → list_any (λ c. true) (cond b (k ∷ named_from (suc k) ns) (named_from (suc k) ns)) ≡ (b || list_any is_free_name ns)
     by true rest = refl
     by false rest = rest
 

@@ -35,20 +35,20 @@ added-Adds path known (n ∷ ns) = by (list_any (λ k. bytes_eq k n) known) refl
     more (Err e) none h = tt
 
     by : (b : Bool) → list_any (λ k. bytes_eq k n) known ≡ b → IfOk (added path (known ++ n ∷ []) ns) (Adds (known ++ n ∷ []) ns)
-      → IfOk (cond b (Err (Repeated path)) (added path (known ++ n ∷ []) ns)) (Adds known (n ∷ ns))
+        → IfOk (cond b (Err (Repeated path)) (added path (known ++ n ∷ []) ns)) (Adds known (n ∷ ns))
     by true is rest = tt
     by false is rest = more (added path (known ++ n ∷ []) ns) is rest
 
 -- a name that is known is refused, and one that is not goes behind them
 pub added-known : (path : List ℕ) (known names : List (List ℕ)) (i : ℕ) (n : List ℕ) → i < length names → n ≡ get_or names i n
-  → list_any (λ k. bytes_eq k n) known ≡ true → added path known (drop i names) ≡ Err (Repeated path)
+    → list_any (λ k. bytes_eq k n) known ≡ true → added path known (drop i names) ≡ Err (Repeated path)
 added-known path known names i n below is among =
     ap (added path known) (drop_more names i n below)
     ∙ ap (λ m. added path known (m ∷ drop (i + 1) names)) (sym is)
     ∙ ap (λ b. cond b (Err (Repeated path)) (added path (known ++ n ∷ []) (drop (i + 1) names))) among
 
 pub added-new : (path : List ℕ) (known names : List (List ℕ)) (i : ℕ) (n : List ℕ) → i < length names → n ≡ get_or names i n
-  → list_any (λ k. bytes_eq k n) known ≡ false → added path known (drop i names) ≡ added path (known ++ n ∷ []) (drop (i + 1) names)
+    → list_any (λ k. bytes_eq k n) known ≡ false → added path known (drop i names) ≡ added path (known ++ n ∷ []) (drop (i + 1) names)
 added-new path known names i n below is among =
     ap (added path known) (drop_more names i n below)
     ∙ ap (λ m. added path known (m ∷ drop (i + 1) names)) (sym is)

@@ -40,9 +40,9 @@ with_rel-Grown : (path : List ℕ) (own : Own) (r : Rel) → IfOk (with_rel path
 unfolding with_rel
 with_rel-Grown path own r =
     ok_and_then
-      (λ fields. and_then (λ inputs. let made : Own = record { fields = fields; inputs = inputs } in Ok made)
-         (added path own.inputs (r.name ∷ [])))
-      (Adds own.fields (rel_fields r)) (Grown own (rel_fields r) (r.name ∷ []))
+    (λ fields. and_then (λ inputs. let made : Own = record { fields = fields; inputs = inputs } in Ok made)
+    (added path own.inputs (r.name ∷ [])))
+    (Adds own.fields (rel_fields r)) (Grown own (rel_fields r) (r.name ∷ []))
     (λ fields f. ok_and_then (λ inputs. let made : Own = record { fields = fields; inputs = inputs } in Ok made) (Adds own.inputs (r.name ∷ [])) (Grown own (rel_fields r) (r.name ∷ []))
     (λ inputs g. record { fields = f; inputs = g }) (added path own.inputs (r.name ∷ [])) (added-Adds path own.inputs (r.name ∷ [])))
     (added path own.fields (rel_fields r)) (added-Adds path own.fields (rel_fields r))
@@ -63,10 +63,11 @@ with_shown_rel-Grown m path own r = by (is_in_schema m r.remote)
   where
     with_nil : (o : Result Own NameRefusal) → IfOk o (Grown own (rel_fields r) (r.name ∷ [])) → IfOk o (Grown own (rel_fields r ++ []) (r.name ∷ []))
     with_nil (Ok all) h =
-        record
-          { fields = record
-               { are = h.fields.are ∙ ap (λ (fs : List (List ℕ)). own.fields ++ fs) (sym (append-nil (rel_fields r))); differ = h.fields.differ };
-             inputs = h.inputs }
+        record {
+          fields = record
+              { are = h.fields.are ∙ ap (λ (fs : List (List ℕ)). own.fields ++ fs) (sym (append-nil (rel_fields r))); differ = h.fields.differ };
+          inputs = h.inputs;
+        }
     with_nil (Err e) h = tt
 
     by : (b : Bool) → IfOk (cond b (with_rel path own r) (Ok own)) (Grown own (flat_map rel_fields (cond b (r ∷ []) [])) (map (λ q. q.name) (cond b (r ∷ []) [])))
@@ -89,7 +90,7 @@ same_lists own all fs gs is js f i h = record {
 
 -- the names of relationships in a row
 grown_row : (m : MetaTree) (a b c : Own) (rs qs : List Rel) → Grown a (fields_for m rs) (inputs_for m rs) b
-  → Grown b (fields_for m qs) (inputs_for m qs) c → Grown a (fields_for m (rs ++ qs)) (inputs_for m (rs ++ qs)) c
+    → Grown b (fields_for m qs) (inputs_for m qs) c → Grown a (fields_for m (rs ++ qs)) (inputs_for m (rs ++ qs)) c
 grown_row m a b c rs qs f g =
     same_lists a c (fields_for m rs ++ fields_for m qs) (fields_for m (rs ++ qs)) (inputs_for m rs ++ inputs_for m qs) (inputs_for m (rs ++ qs)) (fields_more m rs qs) (inputs_more m rs qs)
     (grown_both a b c (fields_for m rs) (fields_for m qs) (inputs_for m rs) (inputs_for m qs) f g)
@@ -168,8 +169,8 @@ unfolding with_table
 with_table-Table s m path known k =
     let made = λ (types roots : List (List ℕ)). let all : Shared = record { types = types; roots = roots } in all in
     ok_and_then
-      (λ types. and_then (λ roots. and_then (λ own. Ok (made types roots)) (own_names m path k)) (added path known.roots (roots_of s k)))
-      (Adds known.types (types_of s k)) (Table s m k known)
+    (λ types. and_then (λ roots. and_then (λ own. Ok (made types roots)) (own_names m path k)) (added path known.roots (roots_of s k)))
+    (Adds known.types (types_of s k)) (Table s m k known)
     (λ types f. ok_and_then (λ roots. and_then (λ own. Ok (made types roots)) (own_names m path k)) (Adds known.roots (roots_of s k)) (Table s m k known)
     (λ roots g. ok_and_then (λ own. Ok (made types roots)) (λ own. OwnDiffer m k) (Table s m k known)
     (λ own h. record { types = f; roots = g; own = h }) (own_names m path k) (own_names-differ m path k))

@@ -22,9 +22,9 @@ pub record WithRels (H : TrackedTree → Type 0) (R : ℕ → List Rel → Type 
   pub each : AllByRecursion (λ k. H k × R k.table k.rels) new
 
 pub put_rels : (H : TrackedTree → Type 0) (R : ℕ → List Rel → Type 0)
-  → ((k : TrackedTree) (rs : List Rel) → H k → H (record k { rels = rs }))
-  → (ks : List TrackedTree) (js : List JsonTree) (rels : List (List Rel)) → length js ≡ length ks → AllByRecursion H ks
-  → AllZip (λ e rs. R e.0 rs) (zip (map (λ k. k.table) ks) js) rels → WithRels H R ks (rels_beside ks rels)
+    → ((k : TrackedTree) (rs : List Rel) → H k → H (record k { rels = rs }))
+    → (ks : List TrackedTree) (js : List JsonTree) (rels : List (List Rel)) → length js ≡ length ks → AllByRecursion H ks
+    → AllZip (λ e rs. R e.0 rs) (zip (map (λ k. k.table) ks) js) rels → WithRels H R ks (rels_beside ks rels)
 put_rels H R keep [] js rels long hs beside = record { same = refl; each = tt }
 put_rels H R keep (k ∷ ks) [] rels long hs beside = cc
 put_rels H R keep (k ∷ ks) (j ∷ js) [] long hs beside = absurd beside
@@ -38,9 +38,9 @@ pub record WithPerms (H : TrackedTree → Type 0) (R : ℕ → List PermTree →
   pub each : AllByRecursion (λ k. H k × R k.table k.perms) new
 
 pub put_perms : (H : TrackedTree → Type 0) (R : ℕ → List PermTree → Type 0)
-  → ((k : TrackedTree) (ps : List PermTree) → H k → H (record k { perms = ps }))
-  → (ks : List TrackedTree) (js : List JsonTree) (perms : List (List PermTree)) → length js ≡ length ks → AllByRecursion H ks
-  → AllZip (λ e ps. R e.0 ps) (zip (map (λ k. k.table) ks) js) perms → WithPerms H R ks (perms_beside ks perms)
+    → ((k : TrackedTree) (ps : List PermTree) → H k → H (record k { perms = ps }))
+    → (ks : List TrackedTree) (js : List JsonTree) (perms : List (List PermTree)) → length js ≡ length ks → AllByRecursion H ks
+    → AllZip (λ e ps. R e.0 ps) (zip (map (λ k. k.table) ks) js) perms → WithPerms H R ks (perms_beside ks perms)
 put_perms H R keep [] js perms long hs beside = record { same = refl; each = tt }
 put_perms H R keep (k ∷ ks) [] perms long hs beside = cc
 put_perms H R keep (k ∷ ks) (j ∷ js) [] long hs beside = absurd beside
@@ -50,7 +50,7 @@ put_perms H R keep (k ∷ ks) (j ∷ js) (ps ∷ perms) long hs beside =
 
 -- what each permission list has stands in the tables
 pub perms_stand : (R : ℕ → List PermTree → Type 0) (ks : List TrackedTree) (js : List JsonTree) (perms : List (List PermTree))
-  → AllZip (λ e ps. R e.0 ps) (zip (map (λ k. k.table) ks) js) perms → AllByRecursion (λ k. R k.table k.perms) (perms_beside ks perms)
+    → AllZip (λ e ps. R e.0 ps) (zip (map (λ k. k.table) ks) js) perms → AllByRecursion (λ k. R k.table k.perms) (perms_beside ks perms)
 perms_stand R [] js perms beside = tt
 perms_stand R (k ∷ ks) js [] beside = tt
 perms_stand R (k ∷ ks) [] (ps ∷ perms) beside = absurd beside
@@ -62,7 +62,7 @@ tracked_by_place [] t = refl
 tracked_by_place (k ∷ ks) t = by (k.table == t) (tracked_by_place ks t)
   where
     by : (b : Bool) → is_some (find (λ k. k.table == t) ks) ≡ is_some (find (λ u. u == t) (map (λ k. k.table) ks))
-      → is_some (cond b (Some k) (find (λ k. k.table == t) ks))
+        → is_some (cond b (Some k) (find (λ k. k.table == t) ks))
         ≡ is_some (cond b (Some k.table) (find (λ u. u == t) (map (λ k. k.table) ks)))
     by true rest = refl
     by false rest = rest
@@ -72,7 +72,7 @@ same_tracked m n t same = tracked_by_place m.tracked t ∙ ap (λ ts. is_some (f
 
 -- permissions change no relationship
 rels_kept : (ks : List TrackedTree) (perms : List (List PermTree)) (t : ℕ) → length perms ≡ length ks
-  → option_map (λ k. k.rels) (find (λ k. k.table == t) (perms_beside ks perms)) ≡ option_map (λ k. k.rels) (find (λ k. k.table == t) ks)
+    → option_map (λ k. k.rels) (find (λ k. k.table == t) (perms_beside ks perms)) ≡ option_map (λ k. k.rels) (find (λ k. k.table == t) ks)
 rels_kept [] perms t long = refl
 rels_kept (k ∷ ks) [] t long = cc
 rels_kept (k ∷ ks) (ps ∷ perms) t long = by (k.table == t) (rels_kept ks perms t (shorter ps perms k ks long))
@@ -81,8 +81,8 @@ rels_kept (k ∷ ks) (ps ∷ perms) t long = by (k.table == t) (rels_kept ks per
     new = record k { perms = ps }
 
     by : (b : Bool)
-      → option_map (λ k. k.rels) (find (λ k. k.table == t) (perms_beside ks perms)) ≡ option_map (λ k. k.rels) (find (λ k. k.table == t) ks)
-      → option_map (λ k. k.rels) (cond b (Some new) (find (λ k. k.table == t) (perms_beside ks perms)))
+        → option_map (λ k. k.rels) (find (λ k. k.table == t) (perms_beside ks perms)) ≡ option_map (λ k. k.rels) (find (λ k. k.table == t) ks)
+        → option_map (λ k. k.rels) (cond b (Some new) (find (λ k. k.table == t) (perms_beside ks perms)))
         ≡ option_map (λ k. k.rels) (cond b (Some k) (find (λ k. k.table == t) ks))
     by true rest = refl
     by false rest = rest

@@ -97,12 +97,12 @@ list_all-same p q same (x ∷ xs) = Prim.cc (same x, list_all-same p q same xs)
 rel_fits : (tables : List Table) (m n : MetaTree) (t : ℕ) (r : Rel) → map (λ k. k.table) n.tracked ≡ map (λ k. k.table) m.tracked → Related tables m t r → fits_rel (schema_of tables n) n t r ≡ true
 rel_fits tables m n t r same h =
     four (is_free_name r.name) (is_some (tracked_table n r.remote)) (nat_lt 0 (length r.pairs))
-      (list_all (λ p. can_pair (column_ty (schema_of tables n) t p.own) (column_ty (schema_of tables n) r.remote p.remote)) r.pairs)
+    (list_all (λ p. can_pair (column_ty (schema_of tables n) t p.own) (column_ty (schema_of tables n) r.remote p.remote)) r.pairs)
     h.named (same_tracked n m r.remote same ∙ h.remote) h.pairs.some
     (list_all-same (λ p. can_pair (column_ty (schema_of tables n) t p.own) (column_ty (schema_of tables n) r.remote p.remote))
-      (λ p. joins (columns_of tables t) (columns_of tables r.remote) p.own p.remote)
+    (λ p. joins (columns_of tables t) (columns_of tables r.remote) p.own p.remote)
     (λ p. ap (λ o. can_pair o (column_ty (schema_of tables n) r.remote p.remote)) (schema_type tables n t p.own)
-       ∙ ap (can_pair (type_of (slice_get (columns_of tables t) p.own))) (schema_type tables n r.remote p.remote))
+    ∙ ap (can_pair (type_of (slice_get (columns_of tables t) p.own))) (schema_type tables n r.remote p.remote))
     r.pairs ∙ h.pairs.join)
 
 is_there : (o : Option Column) → is_some (type_of o) ≡ is_some o
@@ -112,11 +112,11 @@ is_there (Some c) = refl
 perm_fits : (tables : List Table) (n : MetaTree) (t : ℕ) (p : PermTree) → Permits tables t p → Sound (schema_of tables n) t p → fits_perm (schema_of tables n) t p ≡ true
 perm_fits tables n t p h sound =
     five (not (is_admin_name p.role)) (list_all (λ c. is_some (column_ty (schema_of tables n) t c)) p.cols)
-      (is_filter p.filter (schema_of tables n) t) (nat_le (depth p.filter) 300) (limit_fits p.limit)
+    (is_filter p.filter (schema_of tables n) t) (nat_le (depth p.filter) 300) (limit_fits p.limit)
     h.role
     (list_all-same (λ c. is_some (column_ty (schema_of tables n) t c)) (λ c. is_some (slice_get (columns_of tables t) c))
-         (λ c. ap is_some (schema_type tables n t c) ∙ is_there (slice_get (columns_of tables t) c)) p.cols
-       ∙ h.cols)
+    (λ c. ap is_some (schema_type tables n t c) ∙ is_there (slice_get (columns_of tables t) c)) p.cols
+    ∙ h.cols)
     sound.is (le-leb (depth p.filter) 300 sound.shallow) h.limit
 
 -- all that is known of a tracked table
@@ -138,7 +138,7 @@ tracked_fits tables m n k same h =
     (list_all-from (Related tables m k.table) (fits_rel s n k.table) (λ r g. rel_fits tables m n k.table r same g) k.rels h.rels.each)
     h.rels.first h.perms.differ
     (list_all-from (λ p. Permits tables k.table p × Sound s k.table p) (fits_perm s k.table) (λ p g. perm_fits tables n k.table p g.0 g.1)
-       k.perms (all_both (Permits tables k.table) (Sound s k.table) k.perms h.perms.each h.sound))
+    k.perms (all_both (Permits tables k.table) (Sound s k.table) k.perms h.perms.each h.sound))
   where
     columns_there : Option Table → List Column
     columns_there None = []
@@ -154,14 +154,14 @@ named-is tables js =
     ok_and_then (λ ks. Ok (made ks)) (λ ks. Tracked tables ks × Behind (λ j k. ⊤) [] js ks) (λ m. Tracked tables m.tracked × (length js ≡ length m.tracked))
     (λ ks h. (h.0, sym (AllZip-long (λ j k. ⊤) js h.1.new h.1.beside) ∙ ap length (sym h.1.are)))
     read
-      (ok_both read (Tracked tables) (Behind (λ j k. ⊤) [] js) (all_tracked-Tracked tables tables_path js)
-         (each_after-Behind (λ j k. ⊤) (tracked_at tables) (λ before p j. ok_always (tracked_at tables before p j)) tables_path 0 [] js))
+    (ok_both read (Tracked tables) (Behind (λ j k. ⊤) [] js) (all_tracked-Tracked tables tables_path js)
+    (each_after-Behind (λ j k. ⊤) (tracked_at tables) (λ before p j. ok_always (tracked_at tables before p j)) tables_path 0 [] js))
 
 head_kept : (tables : List Table) (k : TrackedTree) (rs : List Rel) → Head tables k → Head tables (record k { rels = rs })
 head_kept tables k rs h = record { table = h.table; there = h.there; named = h.named; columns = h.columns; roots = h.roots }
 
 related-is : (tables : List Table) (js : List JsonTree) (m : MetaTree) → is_catalog tables ≡ true → AllByRecursion (Head tables) m.tracked
-  → length js ≡ length m.tracked → IfOk (related tables tables_path js m) (λ n. WithRels (Head tables) (Rels tables m) m.tracked n.tracked)
+    → length js ≡ length m.tracked → IfOk (related tables tables_path js m) (λ n. WithRels (Head tables) (Rels tables m) m.tracked n.tracked)
 unfolding related
 related-is tables js m catalog heads long =
     let entries = zip (tables_of m) js in
@@ -180,7 +180,7 @@ joined_kept tables m k ps h = (record { table = h.0.table; there = h.0.there; na
 
 -- permissions change no table of the schema
 pub permitted-schema : (tables : List Table) (path : List ℕ) (js : List JsonTree) (n : MetaTree) → length js ≡ length n.tracked
-  → IfOk (permitted tables path js n) (λ q. schema_of tables q ≡ schema_of tables n)
+    → IfOk (permitted tables path js n) (λ q. schema_of tables q ≡ schema_of tables n)
 unfolding permitted
 permitted-schema tables path js n long =
     let entries = zip (tables_of n) js in
@@ -191,8 +191,8 @@ permitted-schema tables path js n long =
     (each_after-Behind (λ e ps. ⊤) (λ before. perms_at tables n) (λ before p e. ok_always (perms_at tables n p e)) path 0 [] entries)
 
 permitted-is : (tables : List Table) (js : List JsonTree) (m n : MetaTree) → AllByRecursion (Joined tables m) n.tracked
-  → length js ≡ length n.tracked
-  → IfOk (permitted tables tables_path js n) (λ q. WithPerms (Joined tables m) (Perms tables) n.tracked q.tracked)
+    → length js ≡ length n.tracked
+    → IfOk (permitted tables tables_path js n) (λ q. WithPerms (Joined tables m) (Perms tables) n.tracked q.tracked)
 unfolding permitted
 permitted-is tables js m n heads long =
     let entries = zip (tables_of n) js in
@@ -211,8 +211,8 @@ all_differ-places (k ∷ ks) = Prim.cc (any_place k.table ks, all_differ-places 
     any_place t (k ∷ ks) = ap (λ b. (t == k.table) || b) (any_place t ks)
 
 all_known : (tables : List Table) (m n : MetaTree) (ks : List TrackedTree)
-  → AllByRecursion (λ k. Joined tables m k × Perms tables k.table k.perms) ks → TablesSound (schema_of tables n) ks
-  → AllByRecursion (All tables m n) ks
+    → AllByRecursion (λ k. Joined tables m k × Perms tables k.table k.perms) ks → TablesSound (schema_of tables n) ks
+    → AllByRecursion (All tables m n) ks
 all_known tables m n [] each sound = tt
 all_known tables m n (k ∷ ks) each sound =
     (record { head = each.0.0.0; rels = each.0.0.1; perms = each.0.1; sound = sound.0 }, all_known tables m n ks each.1 sound.1)
@@ -222,8 +222,8 @@ abbrev pub FitsIf : List Table → MetaTree → Type 0
 FitsIf tables m = TablesSound (schema_of tables m) m.tracked → names_differ (schema_of tables m) m ≡ true → fits tables m ≡ true
 
 whole_fits : (tables : List Table) (m n q : MetaTree) → Tracked tables m.tracked
-  → WithRels (Head tables) (Rels tables m) m.tracked n.tracked → WithPerms (Joined tables m) (Perms tables) n.tracked q.tracked
-  → FitsIf tables q
+    → WithRels (Head tables) (Rels tables m) m.tracked n.tracked → WithPerms (Joined tables m) (Perms tables) n.tracked q.tracked
+    → FitsIf tables q
 whole_fits tables m n q h f g sound names =
     let same : map (λ k. k.table) q.tracked ≡ map (λ k. k.table) m.tracked = g.same ∙ f.same in
     let once : all_differ (λ j k. j.table == k.table) q.tracked ≡ true = all_differ-places q.tracked ∙ ap (all_differ (λ a b. a == b)) same ∙ sym (all_differ-places m.tracked) ∙ h.once in
@@ -240,7 +240,7 @@ unfolding tracked_of
 tracked_of-FitsIf tables js catalog =
     let end = λ (q : MetaTree). and_then (λ u. Ok q) (names_in (names_due (schema_of tables q) q tables_path)) in
     ok_and_then (λ m. and_then (λ n. and_then end (permitted tables tables_path js n)) (related tables tables_path js m))
-      (λ m. Tracked tables m.tracked × (length js ≡ length m.tracked)) (FitsIf tables)
+    (λ m. Tracked tables m.tracked × (length js ≡ length m.tracked)) (FitsIf tables)
     (λ m h. ok_and_then (λ n. and_then end (permitted tables tables_path js n)) (λ n. WithRels (Head tables) (Rels tables m) m.tracked n.tracked) (FitsIf tables)
     (λ n f. ok_and_then end (λ q. WithPerms (Joined tables m) (Perms tables) n.tracked q.tracked) (FitsIf tables)
     (λ q g. ok_next (λ u. Ok q) (FitsIf tables) (λ u. whole_fits tables m n q h.0 f g) (names_in (names_due (schema_of tables q) q tables_path)))
@@ -255,7 +255,7 @@ meta_of-FitsIf tables j catalog =
 
 -- the schema of what the passes gave is that before permissions
 pub tracked_of-schema : (tables : List Table) (js : List JsonTree) (m n q : MetaTree) → is_catalog tables ≡ true → named tables js ≡ Ok m
-  → related tables tables_path js m ≡ Ok n → permitted tables tables_path js n ≡ Ok q → schema_of tables q ≡ schema_of tables n
+    → related tables tables_path js m ≡ Ok n → permitted tables tables_path js n ≡ Ok q → schema_of tables q ≡ schema_of tables n
 tracked_of-schema tables js m n q catalog is_m is_n is_q =
     let h = IfOk-at_ok (λ m. Tracked tables m.tracked × (length js ≡ length m.tracked)) is_m (named-is tables js) in
     let f = IfOk-at_ok (λ n. WithRels (Head tables) (Rels tables m) m.tracked n.tracked) is_n (related-is tables js m catalog h.0.heads h.1) in

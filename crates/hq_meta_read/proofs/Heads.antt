@@ -59,7 +59,7 @@ some-none x b e = cc
 own_name_due-is : (path : List ℕ) (custom : Option JsonTree) (t : Table) → IfOk (own_name_due path custom t) (λ u. OwnIsName custom t)
 own_name_due-is path None t =
     ok_weaker (checked path (is_table_name (own_name t))) (λ u. is_table_name (own_name t) ≡ true) (λ u. OwnIsName None t) (λ u h e. h)
-      (ok_checked path (is_table_name (own_name t)))
+    (ok_checked path (is_table_name (own_name t)))
 own_name_due-is path (Some j) t = λ e. some-none j (is_table_name (own_name t)) e
 
 table_name_due-is : (path : List ℕ) (custom : Option JsonTree) (t : Table) → OwnIsName custom t → IfOk (table_name_due path custom t) (λ n. is_table_name n ≡ true)
@@ -99,7 +99,7 @@ chosen_free None other h f = h
 chosen_free (Some n) other h f = f
 
 root_due-free : (path : List ℕ) (given : Option JsonTree) (which : Field) (name end : List ℕ) → is_free_name (name ++ end) ≡ true
-  → IfOk (root_due path given which name end) (λ n. is_free_name n ≡ true)
+    → IfOk (root_due path given which name end) (λ n. is_free_name n ≡ true)
 unfolding root_due
 root_due-free path given which name end h =
     ok_mapped (λ text. unwrap_or text (name ++ end)) FreeIfSome (λ n. is_free_name n ≡ true) (λ text f. chosen_free text (name ++ end) h f)
@@ -113,19 +113,19 @@ roots_due-free path name given h =
     let all = λ (r : RootNames). are_free_roots r ≡ true in
     let plain : is_free_name (name ++ []) ≡ true = ap is_free_name (append-nil name) ∙ table_name-free name h in
     ok_next
-      (λ custom. and_then
-         (λ select. and_then
-            (λ by_pk. and_then (λ aggregate. Ok (made select by_pk aggregate))
-               (root_due path custom field.SelectAggregate name (codes "_aggregate")))
-            (root_due path custom field.SelectByPk name (codes "_by_pk")))
-         (root_due path custom field.Select name []))
-      all
+    (λ custom. and_then
+    (λ select. and_then
+    (λ by_pk. and_then (λ aggregate. Ok (made select by_pk aggregate))
+    (root_due path custom field.SelectAggregate name (codes "_aggregate")))
+    (root_due path custom field.SelectByPk name (codes "_by_pk")))
+    (root_due path custom field.Select name []))
+    all
     (λ custom. ok_and_then
-      (λ select. and_then
-         (λ by_pk. and_then (λ aggregate. Ok (made select by_pk aggregate))
-            (root_due path custom field.SelectAggregate name (codes "_aggregate")))
-         (root_due path custom field.SelectByPk name (codes "_by_pk")))
-      free all
+    (λ select. and_then
+    (λ by_pk. and_then (λ aggregate. Ok (made select by_pk aggregate))
+    (root_due path custom field.SelectAggregate name (codes "_aggregate")))
+    (root_due path custom field.SelectByPk name (codes "_by_pk")))
+    free all
     (λ select f. ok_and_then (λ by_pk. and_then (λ aggregate. Ok (made select by_pk aggregate)) (root_due path custom field.SelectAggregate name (codes "_aggregate"))) free all
     (λ by_pk g. ok_and_then (λ aggregate. Ok (made select by_pk aggregate)) free all
     (λ aggregate k. and_from (is_free_name select && is_free_name aggregate) (is_free_name by_pk) (and_from (is_free_name select) (is_free_name aggregate) f k) g)
@@ -149,17 +149,17 @@ record Tracks (tables : List Table) (before : List TrackedTree) (custom : Option
   own : OwnIsName custom p.1
 
 entry_table-Tracks : (tables : List Table) (before : List TrackedTree) (path : List ℕ) (object : JsonTree) (custom : Option JsonTree)
-  → IfOk (entry_table tables before path object custom) (Tracks tables before custom)
+    → IfOk (entry_table tables before path object custom) (Tracks tables before custom)
 unfolding entry_table
 entry_table-Tracks tables before path object custom =
     let here = at path field.Table in
     let all = Tracks tables before custom in
     ok_next
-      (λ j. and_then
-         (λ t. and_then (λ table. and_then (λ u. and_then (λ v. Ok (t, table)) (own_name_due here custom table)) (new_table before here t))
-            (table_of tables here t))
-         (table_at tables here j))
-      all
+    (λ j. and_then
+    (λ t. and_then (λ table. and_then (λ u. and_then (λ v. Ok (t, table)) (own_name_due here custom table)) (new_table before here t))
+    (table_of tables here t))
+    (table_at tables here j))
+    all
     (λ j. ok_next (λ t. and_then (λ table. and_then (λ u. and_then (λ v. Ok (t, table)) (own_name_due here custom table)) (new_table before here t)) (table_of tables here t)) all
     (λ t. ok_and_then (λ table. and_then (λ u. and_then (λ v. Ok (t, table)) (own_name_due here custom table)) (new_table before here t)) (λ table. slice_get tables t ≡ Some table) all
     (λ table f. ok_and_then (λ u. and_then (λ v. Ok (t, table)) (own_name_due here custom table)) (λ u. list_any (λ k. k.table == t) before ≡ false) all
@@ -171,27 +171,27 @@ entry_table-Tracks tables before path object custom =
     (member_at path object field.Table)
 
 configured-Head : (tables : List Table) (path : List ℕ) (given : Option JsonTree) (t : ℕ) (table : Table) → slice_get tables t ≡ Some table
-  → OwnIsName (given_value given field.CustomName) table → IfOk (configured path given t table) (λ k. Head tables k × (k.table ≡ t))
+    → OwnIsName (given_value given field.CustomName) table → IfOk (configured path given t table) (λ k. Head tables k × (k.table ≡ t))
 unfolding configured
 configured-Head tables path given t table there own =
     let all = λ (k : TrackedTree). Head tables k × (k.table ≡ t) in
     let made =
-        λ (name : List ℕ) (column_names : List (List ℕ)) (roots : RootNames). let k : TrackedTree = record
-          { table = t; name = name; column_names = column_names; roots = roots; rels = []; perms = [] } in k in
+    λ (name : List ℕ) (column_names : List (List ℕ)) (roots : RootNames). let k : TrackedTree = record
+    { table = t; name = name; column_names = column_names; roots = roots; rels = []; perms = [] } in k in
     let name_path = at path field.CustomName in
     let root_path = at path field.CustomRootFields in
     ok_and_then
-      (λ c. and_then
-         (λ name. and_then
-            (λ ns. and_then (λ roots. Ok (made name ns roots)) (roots_due root_path name (given_value c field.CustomRootFields)))
-            (column_names_due table.columns path c))
-         (table_name_due name_path (given_value c field.CustomName) table))
-      (λ c. c ≡ given) all
+    (λ c. and_then
+    (λ name. and_then
+    (λ ns. and_then (λ roots. Ok (made name ns roots)) (roots_due root_path name (given_value c field.CustomRootFields)))
+    (column_names_due table.columns path c))
+    (table_name_due name_path (given_value c field.CustomName) table))
+    (λ c. c ≡ given) all
     (λ c same. ok_and_then
-      (λ name. and_then
-         (λ ns. and_then (λ roots. Ok (made name ns roots)) (roots_due root_path name (given_value c field.CustomRootFields)))
-         (column_names_due table.columns path c))
-      (λ n. is_table_name n ≡ true) all
+    (λ name. and_then
+    (λ ns. and_then (λ roots. Ok (made name ns roots)) (roots_due root_path name (given_value c field.CustomRootFields)))
+    (column_names_due table.columns path c))
+    (λ n. is_table_name n ≡ true) all
     (λ name f. ok_and_then (λ ns. and_then (λ roots. Ok (made name ns roots)) (roots_due root_path name (given_value c field.CustomRootFields))) (λ ns. length ns ≡ length table.columns) all
     (λ ns g. ok_and_then (λ roots. Ok (made name ns roots)) (λ r. are_free_roots r ≡ true) all
     (λ roots h. (record { table = table; there = there; named = table_name-free name f; columns = g; roots = h }, refl))
@@ -202,14 +202,14 @@ configured-Head tables path given t table there own =
     (given_object path given) (given_object-same path given)
 
 tracked_at-is : (tables : List Table) (before : List TrackedTree) (path : List ℕ) (j : JsonTree)
-  → IfOk (tracked_at tables before path j) (λ k. Head tables k × (list_any (λ q. q.table == k.table) before ≡ false))
+    → IfOk (tracked_at tables before path j) (λ k. Head tables k × (list_any (λ q. q.table == k.table) before ≡ false))
 unfolding tracked_at
 tracked_at-is tables before path j =
     let all = λ (k : TrackedTree). Head tables k × (list_any (λ q. q.table == k.table) before ≡ false) in
     ok_next
-      (λ object. and_then (λ p. configured (at path field.Configuration) (given_value (Some object) field.Configuration) p.0 p.1)
-         (entry_table tables before path object (given_value (given_value (Some object) field.Configuration) field.CustomName)))
-      all
+    (λ object. and_then (λ p. configured (at path field.Configuration) (given_value (Some object) field.Configuration) p.0 p.1)
+    (entry_table tables before path object (given_value (given_value (Some object) field.Configuration) field.CustomName)))
+    all
     (λ object. let given = given_value (Some object) field.Configuration in
     ok_and_then (λ p. configured (at path field.Configuration) given p.0 p.1) (Tracks tables before (given_value given field.CustomName)) all
     (λ p h. ok_weaker (configured (at path field.Configuration) given p.0 p.1) (λ k. Head tables k × (k.table ≡ p.0)) all

@@ -53,15 +53,16 @@ can_pair-sym (Some a) (Some b) = comparable-sym a b
 
 -- columns side by side, as pairs
 zipped : (own remote : List Column) (cs ds : List ℕ) → length cs ≡ length ds → nat_lt 0 (length cs) ≡ true
-  → list_all (λ p. joins own remote p.0 p.1) (zip cs ds) ≡ true → Pairs own remote (pairs_of cs ds)
+    → list_all (λ p. joins own remote p.0 p.1) (zip cs ds) ≡ true → Pairs own remote (pairs_of cs ds)
 zipped own remote [] ds long some all = cc
 zipped own remote (c ∷ cs) [] long some all = cc
 zipped own remote (c ∷ cs) (d ∷ ds) long some all =
-    record
-      { some = positive (length (pairs_of cs ds));
-           join = list_all-map (λ (p : Pair). joins own remote p.own p.remote)
-             (λ (p : ℕ × ℕ). let q : Pair = record { own = p.0; remote = p.1 } in q) (zip (c ∷ cs) (d ∷ ds))
-         ∙ all }
+    record {
+      some = positive (length (pairs_of cs ds));
+      join = list_all-map (λ (p : Pair). joins own remote p.own p.remote)
+          (λ (p : ℕ × ℕ). let q : Pair = record { own = p.0; remote = p.1 } in q) (zip (c ∷ cs) (d ∷ ds))
+          ∙ all;
+    }
 
 turned : (own remote : List Column) (cs ds : List ℕ) → list_all (λ p. joins own remote p.0 p.1) (zip cs ds) ≡ list_all (λ p. joins remote own p.0 p.1) (zip ds cs)
 turned own remote [] [] = refl
@@ -148,7 +149,7 @@ own_key-Key tables t path columns catalog =
     (λ f found. (found_key tables t (λ f. same_columns f.columns columns) f catalog found).1)
 
 pub remote_key-Key : (tables : List Table) (t remote : ℕ) (path columns : List ℕ) → is_catalog tables ≡ true
-  → IfOk (remote_key tables t remote path columns) (λ f. Key tables remote f × (f.remote ≡ t))
+    → IfOk (remote_key tables t remote path columns) (λ f. Key tables remote f × (f.remote ≡ t))
 unfolding remote_key
 remote_key-Key tables t remote path columns catalog =
     ok_found (find (λ f. (f.remote == t) && same_columns f.columns columns) (foreign_of tables remote)) (NoForeignKey path) (λ f. Key tables remote f × (f.remote ≡ t))

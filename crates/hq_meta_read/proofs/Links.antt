@@ -63,11 +63,11 @@ by_remote_key-Joined tables m t path j catalog =
     let all = Joined tables m t in
     ok_next (λ object. and_then (λ u. and_then (λ table. and_then (λ remote. and_then (λ columns. and_then (λ f. Ok (made remote f)) (remote_key tables t remote path columns))
     (key_columns (columns_of tables remote) path (value_of object field.Column) (value_of object field.Columns)))
-      (remote_at tables m (at path field.Table) table)) (member_at path object field.Table))
-      (checked path (just_one (value_of object field.Column) (value_of object field.Columns)))) all
+    (remote_at tables m (at path field.Table) table)) (member_at path object field.Table))
+    (checked path (just_one (value_of object field.Column) (value_of object field.Columns)))) all
     (λ object. ok_next (λ u. and_then (λ table. and_then (λ remote. and_then (λ columns. and_then (λ f. Ok (made remote f)) (remote_key tables t remote path columns))
     (key_columns (columns_of tables remote) path (value_of object field.Column) (value_of object field.Columns)))
-      (remote_at tables m (at path field.Table) table)) (member_at path object field.Table)) all
+    (remote_at tables m (at path field.Table) table)) (member_at path object field.Table)) all
     (λ u. ok_next (λ table. and_then (λ remote. and_then (λ columns. and_then (λ f. Ok (made remote f)) (remote_key tables t remote path columns))
     (key_columns (columns_of tables remote) path (value_of object field.Column) (value_of object field.Columns))) (remote_at tables m (at path field.Table) table)) all
     (λ table. ok_and_then (λ remote. and_then (λ columns. and_then (λ f. Ok (made remote f)) (remote_key tables t remote path columns))
@@ -84,7 +84,7 @@ by_remote_key-Joined tables m t path j catalog =
 
 by_key_of-Joined : (tables : List Table) (m : MetaTree) (t : ℕ) (path : List ℕ) (j : JsonTree) (text : Option (List ℕ))
     (list : Option (List JsonTree))
-  → is_catalog tables ≡ true → IfOk (by_key_of tables m t path j text list) (Joined tables m t)
+    → is_catalog tables ≡ true → IfOk (by_key_of tables m t path j text list) (Joined tables m t)
 by_key_of-Joined tables m t path j (Some name) list catalog =
     ok_next (λ c. by_own_key tables m t path (c ∷ [])) (Joined tables m t) (λ c. by_own_key-Joined tables m t path (c ∷ []) catalog) (column_named (columns_of tables t) path name)
 by_key_of-Joined tables m t path j None (Some js) catalog =
@@ -137,26 +137,26 @@ by_hand-Joined tables m t path j =
     let rp = at path field.RemoteTable in
     let mp = at path field.ColumnMapping in
     ok_next
-      (λ object. and_then
-         (λ table. and_then
-            (λ remote. and_then
-               (λ mapping. and_then (λ pairs. Ok (made remote pairs)) (pairs_at (columns_of tables t) (columns_of tables remote) mp mapping))
-               (member_at path object field.ColumnMapping))
-            (remote_at tables m rp table))
-         (member_at path object field.RemoteTable))
-      all
+    (λ object. and_then
+    (λ table. and_then
+    (λ remote. and_then
+    (λ mapping. and_then (λ pairs. Ok (made remote pairs)) (pairs_at (columns_of tables t) (columns_of tables remote) mp mapping))
+    (member_at path object field.ColumnMapping))
+    (remote_at tables m rp table))
+    (member_at path object field.RemoteTable))
+    all
     (λ object. ok_next
-      (λ table. and_then
-         (λ remote. and_then
-            (λ mapping. and_then (λ pairs. Ok (made remote pairs)) (pairs_at (columns_of tables t) (columns_of tables remote) mp mapping))
-            (member_at path object field.ColumnMapping))
-         (remote_at tables m rp table))
-      all
+    (λ table. and_then
+    (λ remote. and_then
+    (λ mapping. and_then (λ pairs. Ok (made remote pairs)) (pairs_at (columns_of tables t) (columns_of tables remote) mp mapping))
+    (member_at path object field.ColumnMapping))
+    (remote_at tables m rp table))
+    all
     (λ table. ok_and_then
-      (λ remote. and_then
-         (λ mapping. and_then (λ pairs. Ok (made remote pairs)) (pairs_at (columns_of tables t) (columns_of tables remote) mp mapping))
-         (member_at path object field.ColumnMapping))
-      (λ u. is_some (tracked_table m u) ≡ true) all
+    (λ remote. and_then
+    (λ mapping. and_then (λ pairs. Ok (made remote pairs)) (pairs_at (columns_of tables t) (columns_of tables remote) mp mapping))
+    (member_at path object field.ColumnMapping))
+    (λ u. is_some (tracked_table m u) ≡ true) all
     (λ remote h. ok_next (λ mapping. and_then (λ pairs. Ok (made remote pairs)) (pairs_at (columns_of tables t) (columns_of tables remote) mp mapping)) all
     (λ mapping. ok_and_then (λ pairs. Ok (made remote pairs)) (Pairs (columns_of tables t) (columns_of tables remote)) all
     (λ pairs g. record { remote = h; pairs = g })
@@ -167,7 +167,7 @@ by_hand-Joined tables m t path j =
     (object_at path j)
 
 link_by-Joined : (tables : List Table) (m : MetaTree) (t : ℕ) (many : Bool) (path : List ℕ) (key hand : Option JsonTree)
-  → is_catalog tables ≡ true → IfOk (link_by tables m t many path key hand) (Joined tables m t)
+    → is_catalog tables ≡ true → IfOk (link_by tables m t many path key hand) (Joined tables m t)
 link_by-Joined tables m t many path (Some key) None catalog = by_key-Joined tables m t many (at path field.ForeignKeyConstraintOn) key catalog
 link_by-Joined tables m t many path None (Some hand) catalog = by_hand-Joined tables m t (at path field.ManualConfiguration) hand
 link_by-Joined tables m t many path None None catalog = tt
@@ -192,7 +192,7 @@ rel_name_at-free many path j =
     (free_name_at path j) (free_name_at-free path j)
 
 rel_at-Related : (tables : List Table) (m : MetaTree) (t : ℕ) (many : Bool) (path : List ℕ) (j : JsonTree) → is_catalog tables ≡ true
-  → IfOk (rel_at tables m t many path j) (λ r. Related tables m t r × (r.many ≡ many))
+    → IfOk (rel_at tables m t many path j) (λ r. Related tables m t r × (r.many ≡ many))
 unfolding rel_at
 rel_at-Related tables m t many path j catalog =
     let made = λ (name : List ℕ) (l : Link). let r : Rel = record { name = name; remote = l.remote; pairs = l.pairs; many = many } in r in
@@ -200,19 +200,19 @@ rel_at-Related tables m t many path j catalog =
     let np = at path field.Name in
     let up = at path field.Using in
     ok_next
-      (λ object. and_then
-         (λ text. and_then
-            (λ name. and_then (λ using. and_then (λ l. Ok (made name l)) (link_at tables m t many up using))
-               (object_member path object field.Using))
-            (rel_name_at many np text))
-         (member_at path object field.Name))
-      all
+    (λ object. and_then
+    (λ text. and_then
+    (λ name. and_then (λ using. and_then (λ l. Ok (made name l)) (link_at tables m t many up using))
+    (object_member path object field.Using))
+    (rel_name_at many np text))
+    (member_at path object field.Name))
+    all
     (λ object. ok_next
-      (λ text. and_then
-         (λ name. and_then (λ using. and_then (λ l. Ok (made name l)) (link_at tables m t many up using))
-            (object_member path object field.Using))
-         (rel_name_at many np text))
-      all
+    (λ text. and_then
+    (λ name. and_then (λ using. and_then (λ l. Ok (made name l)) (link_at tables m t many up using))
+    (object_member path object field.Using))
+    (rel_name_at many np text))
+    all
     (λ text. ok_and_then (λ name. and_then (λ using. and_then (λ l. Ok (made name l)) (link_at tables m t many up using)) (object_member path object field.Using)) (λ n. is_free_name n ≡ true) all
     (λ name f. ok_next (λ using. and_then (λ l. Ok (made name l)) (link_at tables m t many up using)) all
     (λ using. ok_and_then (λ l. Ok (made name l)) (Joined tables m t) all
@@ -241,8 +241,8 @@ objects-Objects tables m t path js catalog =
     path 0 [] js (record { each = tt; only = refl })
 
 arrays-Rels : (tables : List Table) (m : MetaTree) (t : ℕ) (path : List ℕ) (before : List Rel) (js : List JsonTree)
-  → is_catalog tables ≡ true → Rels tables m t before
-  → IfOk (each_after (λ before. rel_at tables m t true) path 0 before js) (Rels tables m t)
+    → is_catalog tables ≡ true → Rels tables m t before
+    → IfOk (each_after (λ before. rel_at tables m t true) path 0 before js) (Rels tables m t)
 arrays-Rels tables m t path before js catalog i =
     each_after-keeps (Rels tables m t) (λ before. rel_at tables m t true)
     (λ before p j i. ok_weaker (rel_at tables m t true p j) (λ r. Related tables m t r × (r.many ≡ true)) (λ r. Rels tables m t (before ++ r ∷ []))
@@ -255,7 +255,7 @@ unfolding objects_at
 objects_at-Objects tables m path entry catalog =
     let op = at path field.ObjectRelationships in
     ok_next (λ list. each (rel_at tables m entry.0 false) op list) (Objects tables m entry.0)
-      (λ list. objects-Objects tables m entry.0 op list catalog) (entries_member path entry.1 field.ObjectRelationships)
+    (λ list. objects-Objects tables m entry.0 op list catalog) (entries_member path entry.1 field.ObjectRelationships)
 
 pub rels_at-Rels : (tables : List Table) (m : MetaTree) (path : List ℕ) (entry : ℕ × JsonTree) → is_catalog tables ≡ true → IfOk (rels_at tables m path entry) (Rels tables m entry.0)
 unfolding rels_at
@@ -263,9 +263,9 @@ rels_at-Rels tables m path entry catalog =
     let t = entry.0 in
     let rp = at path field.ArrayRelationships in
     ok_and_then
-      (λ objects. and_then (λ list. each_after (λ before. rel_at tables m t true) rp 0 objects list)
-         (entries_member path entry.1 field.ArrayRelationships))
-      (Objects tables m t) (Rels tables m t)
+    (λ objects. and_then (λ list. each_after (λ before. rel_at tables m t true) rp 0 objects list)
+    (entries_member path entry.1 field.ArrayRelationships))
+    (Objects tables m t) (Rels tables m t)
     (λ objects h. ok_next (λ list. each_after (λ before. rel_at tables m t true) rp 0 objects list) (Rels tables m t)
     (λ list. arrays-Rels tables m t rp objects list catalog (record { each = h.each; first = objects-only objects h.only }))
     (entries_member path entry.1 field.ArrayRelationships))

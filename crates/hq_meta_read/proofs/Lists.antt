@@ -110,8 +110,8 @@ objects-push [] r first many = ap (λ b. cond b true true) many
 objects-push (q ∷ rs) r first many = by q.many first (λ h. objects-push rs r h many)
   where
     by : (b : Bool) → cond b (list_all (λ q. q.many) rs) (objects_first rs) ≡ true
-      → (objects_first rs ≡ true → objects_first (rs ++ r ∷ []) ≡ true)
-      → cond b (list_all (λ q. q.many) (rs ++ r ∷ [])) (objects_first (rs ++ r ∷ [])) ≡ true
+        → (objects_first rs ≡ true → objects_first (rs ++ r ∷ []) ≡ true)
+        → cond b (list_all (λ q. q.many) (rs ++ r ∷ [])) (objects_first (rs ++ r ∷ [])) ≡ true
     by true h rest = list_all-push (λ q. q.many) rs r h many
     by false h rest = rest h
 

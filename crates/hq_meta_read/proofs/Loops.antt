@@ -22,7 +22,7 @@ pair c d = record { own = c; remote = d }
 
 -- the items at a place, and those behind it
 pub zip_here : {A B : Type 0} (xs : List A) (ys : List B) (i : ℕ) (x : A) (y : B) → i < length xs → x ≡ get_or xs i x
-  → slice_get ys i ≡ Some y → zip (drop i xs) (drop i ys) ≡ (x, y) ∷ zip (drop (i + 1) xs) (drop (i + 1) ys)
+    → slice_get ys i ≡ Some y → zip (drop i xs) (drop i ys) ≡ (x, y) ∷ zip (drop (i + 1) xs) (drop (i + 1) ys)
 zip_here xs ys i x y below is there =
     let left : drop i xs ≡ x ∷ drop (i + 1) xs = drop_more xs i x below ∙ ap (λ v. v ∷ drop (i + 1) xs) (sym is) in
     let right : drop i ys ≡ y ∷ drop (i + 1) ys = drop_more ys i y (slice_get_within ys i y there) ∙ ap (λ w. w ∷ drop (i + 1) ys) (get_or_from_slice_get ys i y y there) in
@@ -55,7 +55,7 @@ more (v ∷ vs) (w ∷ ws) (suc i) x y below is there = ap (λ ps. (v, w) ∷ ps
 
 -- one item more, beside its own
 pub zip_more : {A B : Type 0} (xs : List A) (ys : List B) (i : ℕ) (x : A) (y : B) → i < length xs → x ≡ get_or xs i x
-  → slice_get ys i ≡ Some y → zip (take (i + 1) xs) ys ≡ zip (take i xs) ys ++ (x, y) ∷ []
+    → slice_get ys i ≡ Some y → zip (take (i + 1) xs) ys ≡ zip (take i xs) ys ++ (x, y) ∷ []
 zip_more xs ys i x y below is there =
     let next : i + 1 ≡ suc i = omega arith in
     ap (λ n. zip (take n xs) ys) next ∙ more xs ys i x y below is there
@@ -79,7 +79,7 @@ zip_same xs ys i none =
 
 -- one pair more, and none more
 pub pairs_more : (own remote : List ℕ) (i c d : ℕ) → i < length own → c ≡ get_or own i c → slice_get remote i ≡ Some d
-  → pairs_of (take (i + 1) own) remote ≡ pairs_of (take i own) remote ++ pair c d ∷ []
+    → pairs_of (take (i + 1) own) remote ≡ pairs_of (take i own) remote ++ pair c d ∷ []
 pairs_more own remote i c d below is there =
     ap (map (λ p. pair p.0 p.1)) (zip_more own remote i c d below is there) ∙ map-append (λ p. pair p.0 p.1) (zip (take i own) remote) ((c, d) ∷ [])
 
@@ -89,17 +89,17 @@ pairs_same own remote i none = ap (map (λ p. pair p.0 p.1)) (zip_same own remot
 -- what is read of two lists side by side, from a place on
 pub zip_step : {A B C E : Type 0} (read : List C → List ℕ → A × B → Result C E) (path : List ℕ) (before : List C) (xs : List A)
     (ys : List B) (i : ℕ) (x : A) (y : B)
-  → i < length xs → x ≡ get_or xs i x → slice_get ys i ≡ Some y
-  → each_after read path i before (zip (drop i xs) (drop i ys))
+    → i < length xs → x ≡ get_or xs i x → slice_get ys i ≡ Some y
+    → each_after read path i before (zip (drop i xs) (drop i ys))
     ≡ and_then (λ z. each_after read path (i + 1) (before ++ z ∷ []) (zip (drop (i + 1) xs) (drop (i + 1) ys)))
-      (read before (item_path path i) (x, y))
+    (read before (item_path path i) (x, y))
 zip_step read path before xs ys i x y below is there = ap (each_after read path i before) (zip_here xs ys i x y below is there)
 
 -- the step was refused
 pub zip_refused : {A B C E : Type 0} (read : List C → List ℕ → A × B → Result C E) (path p : List ℕ) (before : List C) (xs : List A)
     (ys : List B) (i : ℕ) (x : A) (y : B) (e : E)
-  → i < length xs → x ≡ get_or xs i x → slice_get ys i ≡ Some y → p ≡ item_path path i → read before p (x, y) ≡ Err e
-  → each_after read path i before (zip (drop i xs) (drop i ys)) ≡ Err e
+    → i < length xs → x ≡ get_or xs i x → slice_get ys i ≡ Some y → p ≡ item_path path i → read before p (x, y) ≡ Err e
+    → each_after read path i before (zip (drop i xs) (drop i ys)) ≡ Err e
 zip_refused read path p before xs ys i x y e below is there at refused =
     zip_step read path before xs ys i x y below is there
     ∙ ap (and_then (λ z. each_after read path (i + 1) (before ++ z ∷ []) (zip (drop (i + 1) xs) (drop (i + 1) ys)))) (ap (λ q. read before q (x, y)) (sym at) ∙ refused)
@@ -107,9 +107,9 @@ zip_refused read path p before xs ys i x y e below is there at refused =
 -- the step gave a value
 pub zip_given : {A B C E : Type 0} (read : List C → List ℕ → A × B → Result C E) (path p : List ℕ) (before new : List C) (xs : List A)
     (ys : List B) (i : ℕ) (x : A) (y : B) (z : C)
-  → i < length xs → x ≡ get_or xs i x → slice_get ys i ≡ Some y → p ≡ item_path path i → read before p (x, y) ≡ Ok z
-  → new ≡ before ++ z ∷ []
-  → each_after read path (i + 1) new (zip (drop (i + 1) xs) (drop (i + 1) ys)) ≡ each_after read path i before (zip (drop i xs) (drop i ys))
+    → i < length xs → x ≡ get_or xs i x → slice_get ys i ≡ Some y → p ≡ item_path path i → read before p (x, y) ≡ Ok z
+    → new ≡ before ++ z ∷ []
+    → each_after read path (i + 1) new (zip (drop (i + 1) xs) (drop (i + 1) ys)) ≡ each_after read path i before (zip (drop i xs) (drop i ys))
 zip_given read path p before new xs ys i x y z below is there at given grows =
     ap (λ all. each_after read path (i + 1) all (zip (drop (i + 1) xs) (drop (i + 1) ys))) grows
     ∙ sym
@@ -119,8 +119,8 @@ zip_given read path p before new xs ys i x y z below is there at given grows =
 -- there was no step
 pub zip_skipped : {A B C E : Type 0} (read : List C → List ℕ → A × B → Result C E) (path : List ℕ) (before : List C) (xs : List A)
     (ys : List B) (i : ℕ)
-  → slice_get ys i ≡ None
-  → each_after read path (i + 1) before (zip (drop (i + 1) xs) (drop (i + 1) ys))
+    → slice_get ys i ≡ None
+    → each_after read path (i + 1) before (zip (drop (i + 1) xs) (drop (i + 1) ys))
     ≡ each_after read path i before (zip (drop i xs) (drop i ys))
 zip_skipped read path before xs ys i none =
     let left : zip (drop (i + 1) xs) (drop (i + 1) ys) ≡ [] = sym (zip_past xs ys i none) ∙ zip_nil (drop i xs) (drop i ys) (drop_past ys i none).0 in
@@ -134,18 +134,18 @@ refused_more e memory here due more (inr h) = inr (more h)
 
 -- the first table, and the first of what is put in
 pub rels_first : (ts : List Tracked) (rels : List (List Rel)) (k : Tracked) (rs : List Rel) → 0 < length ts → k ≡ get_or ts 0 k
-  → 0 < length rels → rs ≡ get_or rels 0 rs
-  → rels_beside (map tracked_view ts) rels
+    → 0 < length rels → rs ≡ get_or rels 0 rs
+    → rels_beside (map tracked_view ts) rels
     ≡ (record (tracked_view k) { rels = rs }) ∷ rels_beside (map tracked_view (remove ts 0)) (remove rels 0)
 rels_first [] rels k rs some is more are = absurd (omega (arith, some))
 rels_first (t ∷ ts) [] k rs some is more are = absurd (omega (arith, more))
 rels_first (t ∷ ts) (r ∷ rels) k rs some is more are = Prim.cc (is, are)
 
 pub perms_first : (ts : List Tracked) (perms : List (List Perm)) (k : Tracked) (ps : List Perm) → 0 < length ts → k ≡ get_or ts 0 k
-  → 0 < length perms → ps ≡ get_or perms 0 ps
-  → perms_beside (map tracked_view ts) (map (map perm_view) perms)
+    → 0 < length perms → ps ≡ get_or perms 0 ps
+    → perms_beside (map tracked_view ts) (map (map perm_view) perms)
     ≡ (record (tracked_view k) { perms = map perm_view ps })
-      ∷ perms_beside (map tracked_view (remove ts 0)) (map (map perm_view) (remove perms 0))
+    ∷ perms_beside (map tracked_view (remove ts 0)) (map (map perm_view) (remove perms 0))
 perms_first [] perms k ps some is more are = absurd (omega (arith, some))
 perms_first (t ∷ ts) [] k ps some is more are = absurd (omega (arith, more))
 perms_first (t ∷ ts) (p ∷ perms) k ps some is more are = Prim.cc (is, are)

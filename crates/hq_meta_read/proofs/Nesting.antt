@@ -31,7 +31,7 @@ found_in (member n j ms) name = by (bytes_eq n name) (found_in ms name)
     later (Some v) h = omega (arith, h)
 
     by : (b : Bool) → IfSome (lookup (λ n. bytes_eq n name) (member_list ms)) (λ v. nesting v ≤ nesting_of_members ms)
-      → IfSome (cond b (Some j) (lookup (λ n. bytes_eq n name) (member_list ms))) (λ v. nesting v ≤ max (nesting j) (nesting_of_members ms))
+        → IfSome (cond b (Some j) (lookup (λ n. bytes_eq n name) (member_list ms))) (λ v. nesting v ≤ max (nesting j) (nesting_of_members ms))
     by true rest = omega arith
     by false rest = later (lookup (λ n. bytes_eq n name) (member_list ms)) rest
 
@@ -117,23 +117,23 @@ unfolding source_tables
 source_tables-shallow j h =
     let all = AllByRecursion Shallow in
     ok_and_then
-      (λ source. and_then
-         (λ name. and_then
-            (λ kind. and_then (λ plain. list_member source_path source field.Tables)
-               (plain_in (at source_path field.Customization) (value_of source field.Customization)))
-            (kind_due source))
-         (text_member source_path source field.Name))
-      Shallow all
+    (λ source. and_then
+    (λ name. and_then
+    (λ kind. and_then (λ plain. list_member source_path source field.Tables)
+    (plain_in (at source_path field.Customization) (value_of source field.Customization)))
+    (kind_due source))
+    (text_member source_path source field.Name))
+    Shallow all
     (λ source g. ok_next
-      (λ name. and_then
-         (λ kind. and_then (λ plain. list_member source_path source field.Tables)
-            (plain_in (at source_path field.Customization) (value_of source field.Customization)))
-         (kind_due source))
-      all
+    (λ name. and_then
+    (λ kind. and_then (λ plain. list_member source_path source field.Tables)
+    (plain_in (at source_path field.Customization) (value_of source field.Customization)))
+    (kind_due source))
+    all
     (λ name. ok_next (λ kind. and_then (λ plain. list_member source_path source field.Tables) (plain_in (at source_path field.Customization) (value_of source field.Customization))) all
     (λ kind. ok_next (λ plain. list_member source_path source field.Tables) all
-       (λ plain. list_member-shallow source_path source field.Tables g)
-       (plain_in (at source_path field.Customization) (value_of source field.Customization)))
+    (λ plain. list_member-shallow source_path source field.Tables g)
+    (plain_in (at source_path field.Customization) (value_of source field.Customization)))
     (kind_due source)) (text_member source_path source field.Name))
     (object_at source_path j) (object_at-shallow source_path j h)
 

@@ -92,55 +92,55 @@ permission_at-Granted tables m t role path object =
     let allowed = value_of object field.AllowAggregations in
     let read = λ (w : JsonTree). filter_in (filter_due w (schema_of tables m) t (at path field.Filter)) in
     ok_next
-      (λ columns. and_then
-         (λ cols. and_then
-            (λ w. and_then
-               (λ f. and_then
-                  (λ l. and_then
-                     (λ a. and_then (λ u. and_then (λ v. Ok (made cols f l a)) (absent path object field.SubscriptionRootFields))
-                        (absent path object field.QueryRootFields))
-                     (aggregations_due ap_ allowed))
-                  (limit_due lp limit))
-               (read w))
-            (member_at path object field.Filter))
-         (columns_at (columns_of tables t) cp columns))
-      all
+    (λ columns. and_then
+    (λ cols. and_then
+    (λ w. and_then
+    (λ f. and_then
+    (λ l. and_then
+    (λ a. and_then (λ u. and_then (λ v. Ok (made cols f l a)) (absent path object field.SubscriptionRootFields))
+    (absent path object field.QueryRootFields))
+    (aggregations_due ap_ allowed))
+    (limit_due lp limit))
+    (read w))
+    (member_at path object field.Filter))
+    (columns_at (columns_of tables t) cp columns))
+    all
     (λ columns. ok_and_then
-      (λ cols. and_then
-         (λ w. and_then
-            (λ f. and_then
-               (λ l. and_then
-                  (λ a. and_then (λ u. and_then (λ v. Ok (made cols f l a)) (absent path object field.SubscriptionRootFields))
-                     (absent path object field.QueryRootFields))
-                  (aggregations_due ap_ allowed))
-               (limit_due lp limit))
-            (read w))
-         (member_at path object field.Filter))
-      (Within (columns_of tables t)) all
+    (λ cols. and_then
+    (λ w. and_then
+    (λ f. and_then
+    (λ l. and_then
+    (λ a. and_then (λ u. and_then (λ v. Ok (made cols f l a)) (absent path object field.SubscriptionRootFields))
+    (absent path object field.QueryRootFields))
+    (aggregations_due ap_ allowed))
+    (limit_due lp limit))
+    (read w))
+    (member_at path object field.Filter))
+    (Within (columns_of tables t)) all
     (λ cols h. ok_next
-      (λ w. and_then
-         (λ f. and_then
-            (λ l. and_then
-               (λ a. and_then (λ u. and_then (λ v. Ok (made cols f l a)) (absent path object field.SubscriptionRootFields))
-                  (absent path object field.QueryRootFields))
-               (aggregations_due ap_ allowed))
-            (limit_due lp limit))
-         (read w))
-      all
+    (λ w. and_then
+    (λ f. and_then
+    (λ l. and_then
+    (λ a. and_then (λ u. and_then (λ v. Ok (made cols f l a)) (absent path object field.SubscriptionRootFields))
+    (absent path object field.QueryRootFields))
+    (aggregations_due ap_ allowed))
+    (limit_due lp limit))
+    (read w))
+    all
     (λ w. ok_next
-      (λ f. and_then
-         (λ l. and_then
-            (λ a. and_then (λ u. and_then (λ v. Ok (made cols f l a)) (absent path object field.SubscriptionRootFields))
-               (absent path object field.QueryRootFields))
-            (aggregations_due ap_ allowed))
-         (limit_due lp limit))
-      all
+    (λ f. and_then
+    (λ l. and_then
+    (λ a. and_then (λ u. and_then (λ v. Ok (made cols f l a)) (absent path object field.SubscriptionRootFields))
+    (absent path object field.QueryRootFields))
+    (aggregations_due ap_ allowed))
+    (limit_due lp limit))
+    all
     (λ f. ok_and_then
-      (λ l. and_then
-         (λ a. and_then (λ u. and_then (λ v. Ok (made cols f l a)) (absent path object field.SubscriptionRootFields))
-            (absent path object field.QueryRootFields))
-         (aggregations_due ap_ allowed))
-      (λ l. limit_fits l ≡ true) all
+    (λ l. and_then
+    (λ a. and_then (λ u. and_then (λ v. Ok (made cols f l a)) (absent path object field.SubscriptionRootFields))
+    (absent path object field.QueryRootFields))
+    (aggregations_due ap_ allowed))
+    (λ l. limit_fits l ≡ true) all
     (λ l g. ok_next (λ a. and_then (λ u. and_then (λ v. Ok (made cols f l a)) (absent path object field.SubscriptionRootFields)) (absent path object field.QueryRootFields)) all
     (λ a. ok_next (λ u. and_then (λ v. Ok (made cols f l a)) (absent path object field.SubscriptionRootFields)) all
     (λ u. ok_next (λ v. Ok (made cols f l a)) all (λ v. record { same = refl; cols = h; limit = g }) (absent path object field.SubscriptionRootFields))
@@ -153,7 +153,7 @@ permission_at-Granted tables m t role path object =
     (member_at path object field.Columns)
 
 perm_at-is : (tables : List Table) (m : MetaTree) (t : ℕ) (before : List PermTree) (path : List ℕ) (j : JsonTree)
-  → IfOk (perm_at tables m t before path j) (λ p. Permits tables t p × (list_any (λ q. bytes_eq q.role p.role) before ≡ false))
+    → IfOk (perm_at tables m t before path j) (λ p. Permits tables t p × (list_any (λ q. bytes_eq q.role p.role) before ≡ false))
 unfolding perm_at
 perm_at-is tables m t before path j =
     let all = λ (p : PermTree). Permits tables t p × (list_any (λ q. bytes_eq q.role p.role) before ≡ false) in

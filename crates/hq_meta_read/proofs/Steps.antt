@@ -56,8 +56,8 @@ ok_checked path b = ok_tested b tt (Shape path) (λ u. b ≡ true) (λ h. h)
 
 -- what each element keeps
 pub each_after-keeps : {A B E : Type 0} (I : List B → Type 0) (read : List B → List ℕ → A → Result B E)
-  → ((before : List B) (p : List ℕ) (x : A) → I before → IfOk (read before p x) (λ y. I (before ++ y ∷ [])))
-  → (path : List ℕ) (place : ℕ) (before : List B) (xs : List A) → I before → IfOk (each_after read path place before xs) I
+    → ((before : List B) (p : List ℕ) (x : A) → I before → IfOk (read before p x) (λ y. I (before ++ y ∷ [])))
+    → (path : List ℕ) (place : ℕ) (before : List B) (xs : List A) → I before → IfOk (each_after read path place before xs) I
 each_after-keeps I read step path place before [] i = i
 each_after-keeps I read step path place before (x ∷ xs) i =
     ok_and_then (λ y. each_after read path (place + 1) (before ++ y ∷ []) xs) (λ y. I (before ++ y ∷ [])) I
@@ -71,8 +71,8 @@ pub record Behind {A B : Type 0} (R : A → B → Type 0) (before : List B) (xs 
   pub beside : AllZip R xs new
 
 pub each_after-Behind : {A B E : Type 0} (R : A → B → Type 0) (read : List B → List ℕ → A → Result B E)
-  → ((before : List B) (p : List ℕ) (x : A) → IfOk (read before p x) (R x)) → (path : List ℕ) (place : ℕ) (before : List B) (xs : List A)
-  → IfOk (each_after read path place before xs) (Behind R before xs)
+    → ((before : List B) (p : List ℕ) (x : A) → IfOk (read before p x) (R x)) → (path : List ℕ) (place : ℕ) (before : List B) (xs : List A)
+    → IfOk (each_after read path place before xs) (Behind R before xs)
 each_after-Behind R read step path place before [] = record { new = []; are = sym (append-nil before); beside = tt }
 each_after-Behind R read step path place before (x ∷ xs) =
     ok_and_then (λ y. each_after read path (place + 1) (before ++ y ∷ []) xs) (R x) (Behind R before (x ∷ xs))
@@ -83,8 +83,8 @@ each_after-Behind R read step path place before (x ∷ xs) =
 
 -- a value beside each member
 pub each_member-beside : {A B E : Type 0} (P : B → Type 0) (read : List ℕ → List ℕ → A → Result B E)
-  → ((name p : List ℕ) (x : A) → IfOk (read name p x) P) → (path : List ℕ) (ms : List (List ℕ × A))
-  → IfOk (each_member read path ms) (AllZip (λ m y. P y) ms)
+    → ((name p : List ℕ) (x : A) → IfOk (read name p x) P) → (path : List ℕ) (ms : List (List ℕ × A))
+    → IfOk (each_member read path ms) (AllZip (λ m y. P y) ms)
 each_member-beside P read step path [] = tt
 each_member-beside P read step path (m ∷ ms) =
     ok_and_then (λ y. mapped (λ ys. y ∷ ys) (each_member read path ms)) P (AllZip (λ m y. P y) (m ∷ ms))
@@ -99,9 +99,9 @@ grown done y (Err e) = refl
 -- one member more is read, behind those before it
 pub each_member-more : {A B C E : Type 0} (read : List ℕ → List ℕ → C → Result B E) (view : A → List ℕ × C) (path p : List ℕ) (ms : List A)
     (i : ℕ) (m : A) (done more : List B) (y : B) (whole : Result (List B) E)
-  → whole ≡ mapped (λ ys. done ++ ys) (each_member read path (map view (drop i ms))) → i < length ms → m ≡ get_or ms i m
-  → p ≡ member_path path (view m).0 → read (view m).0 p (view m).1 ≡ Ok y → more ≡ done ++ y ∷ []
-  → whole ≡ mapped (λ ys. more ++ ys) (each_member read path (map view (drop (i + 1) ms)))
+    → whole ≡ mapped (λ ys. done ++ ys) (each_member read path (map view (drop i ms))) → i < length ms → m ≡ get_or ms i m
+    → p ≡ member_path path (view m).0 → read (view m).0 p (view m).1 ≡ Ok y → more ≡ done ++ y ∷ []
+    → whole ≡ mapped (λ ys. more ++ ys) (each_member read path (map view (drop (i + 1) ms)))
 each_member-more read view path p ms i m done more y whole so_far below is at given grows =
     let rest = each_member read path (map view (drop (i + 1) ms)) in
     so_far
@@ -113,8 +113,8 @@ each_member-more read view path p ms i m done more y whole so_far below is at gi
 -- one element more is read, behind those before it
 pub each_after-more : {A B C E : Type 0} (read : List B → List ℕ → C → Result B E) (f : A → C) (path p : List ℕ) (place : ℕ)
     (before new : List B) (xs : List A) (x : A) (y : B)
-  → place < length xs → x ≡ get_or xs place x → p ≡ item_path path place → read before p (f x) ≡ Ok y → new ≡ before ++ y ∷ []
-  → each_after read path (place + 1) new (map f (drop (place + 1) xs)) ≡ each_after read path place before (map f (drop place xs))
+    → place < length xs → x ≡ get_or xs place x → p ≡ item_path path place → read before p (f x) ≡ Ok y → new ≡ before ++ y ∷ []
+    → each_after read path (place + 1) new (map f (drop (place + 1) xs)) ≡ each_after read path place before (map f (drop place xs))
 each_after-more {B = B} {E = E} read f path p place before new xs x y below is at given grows =
     let rest : B → Result (List B) E = λ v. each_after read path (place + 1) (before ++ v ∷ []) (map f (drop (place + 1) xs)) in
     sym

@@ -161,9 +161,9 @@ fn key_columns(
     columns: Option<&Json>,
 ) -> Result<ColList, MetaRefusal>
     ensures { Gives (λ columns. columns) MetaRefusal.Memory
-          (key_columns remote.now path.now (option_map (λ j. json_view j.now) column.entry)
-             (option_map (λ j. json_view j.now) columns.entry))
-          result }
+        (key_columns remote.now path.now (option_map (λ j. json_view j.now) column.entry)
+        (option_map (λ j. json_view j.now) columns.entry))
+        result }
 {
     if let Some(json) = column {
         let path = at(alloc, path, Field::Column)?;

@@ -148,10 +148,10 @@ fn filter_at(
     json: &Json,
 ) -> Result<Box<Bexp>, MetaRefusal>
     ensures due { Gives (λ b. bexp_view b.value) MetaRefusal.Memory
-          (filter_in
-             (filter_due (json_view json.now) (schema_of scope.now.catalog.now.tables (meta_view scope.now.meta.now)) table
-                (at path.now Field.Filter)))
-          result }
+        (filter_in
+        (filter_due (json_view json.now) (schema_of scope.now.catalog.now.tables (meta_view scope.now.meta.now)) table
+        (at path.now Field.Filter)))
+        result }
     ensures is { IfOk result (λ b. is_filter (bexp_view b.value) (schema_of scope.now.catalog.now.tables (meta_view scope.now.meta.now)) table ≡ true) }
     ensures shallow { IfOk result (λ b. depth (bexp_view b.value) ≤ 2 * nesting (json_view json.now)) }
 {
@@ -309,11 +309,11 @@ fn all_perms(
 ) -> Result<List<PermList>, MetaRefusal>
     requires { AllByRecursion (λ j. Shallow (json_view j)) list.now }
     ensures due { Gives (map (map perm_view)) MetaRefusal.Memory
-          (each (perms_at scope.now.catalog.now.tables (meta_view scope.now.meta.now)) path.now (zip tables.now (map json_view list.now)))
-          result }
+        (each (perms_at scope.now.catalog.now.tables (meta_view scope.now.meta.now)) path.now (zip tables.now (map json_view list.now)))
+        result }
     ensures sound { IfOk result
-          (λ all. AllZip (λ e ps. AllSound (schema_of scope.now.catalog.now.tables (meta_view scope.now.meta.now)) e.0 ps)
-             (zip tables.now (map json_view list.now)) (map (map perm_view) all)) }
+        (λ all. AllZip (λ e ps. AllSound (schema_of scope.now.catalog.now.tables (meta_view scope.now.meta.now)) e.0 ps)
+        (zip tables.now (map json_view list.now)) (map (map perm_view) all)) }
 {
     let mut all = List::new(alloc);
     for (place, table) in tables.iter().enumerate() {

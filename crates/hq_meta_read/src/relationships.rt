@@ -76,9 +76,9 @@ fn listed_rels(
     list: &[Json],
 ) -> Result<RelList, MetaRefusal>
     ensures { Gives (λ rels. rels) MetaRefusal.Memory
-          (each_after (λ before. rel_at scope.now.catalog.now.tables (meta_view scope.now.meta.now) table many) path.now 0 before
-             (map json_view list.now))
-          result }
+        (each_after (λ before. rel_at scope.now.catalog.now.tables (meta_view scope.now.meta.now) table many) path.now 0 before
+        (map json_view list.now))
+        result }
 {
     let mut rels = before;
     for (place, json) in list.iter().enumerate() {

@@ -75,9 +75,9 @@ fn entry_table<'a>(
     custom: Option<&Json>,
 ) -> Result<(TableId, &'a Table), MetaRefusal>
     ensures { Gives (λ found. (found.0, found.1.now)) MetaRefusal.Memory
-          (entry_table catalog.now.tables (map tracked_view before.now) path.now (json_view object.now)
-             (option_map (λ j. json_view j.now) custom.entry))
-          result }
+        (entry_table catalog.now.tables (map tracked_view before.now) path.now (json_view object.now)
+        (option_map (λ j. json_view j.now) custom.entry))
+        result }
 {
     let json = member_at(alloc, path, object, Field::Table)?;
     let path = at(alloc, path, Field::Table)?;
@@ -109,9 +109,9 @@ fn roots_in(
     name: &Txt,
 ) -> Result<RootNames, MetaRefusal>
     ensures { Gives (λ names. names) MetaRefusal.Memory
-          (roots_due (at path.now CustomRootFields) name.now
-             (given_value (option_map (λ j. json_view j.now) configuration.entry) CustomRootFields))
-          result }
+        (roots_due (at path.now CustomRootFields) name.now
+        (given_value (option_map (λ j. json_view j.now) configuration.entry) CustomRootFields))
+        result }
 {
     let custom = given_value(configuration, Field::CustomRootFields);
     roots(

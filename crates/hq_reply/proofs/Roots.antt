@@ -45,7 +45,7 @@ in_braces ms = ap (λ ts. codes "{\"data\":{" ++ ts) (sym (append_assoc (join_wi
 
 -- the body that is written has the data
 pub data_written : (schema : SchemaTree) (of_table : FieldTree → JsonTree) (fs : FieldTrees) (ms : List AnswerMember) (filled body : List ℕ)
-  → map named_text ms ≡ named_texts (table_members of_table fs)
+    → map named_text ms ≡ named_texts (table_members of_table fs)
     → filled ≡ codes "{\"data\":{" ++ members_text schema (texts_of ms) fs → body ≡ filled ++ codes "}}" → body ≡ data_text (obj (root_members schema of_table fs))
 data_written schema of_table fs ms filled body same a b =
     b ∙ ap (λ t. t ++ codes "}}") (a ∙ ap (λ ts. codes "{\"data\":{" ++ join_with_byte 44 ts) (ap (λ ts. root_texts schema ts fs) (texts_there ms _ same) ∙ roots_are schema of_table fs))

@@ -30,7 +30,7 @@ same_document (Some f) d v h = absurd cc
 module _ (schema : SchemaTree) (tables : List Table) (meta : MetaTree) (session : Session) (body : List ℕ) (ask : AskTree) where
   -- of a valid document
   document_made : (json : JsonTree) (text : List ℕ) (document : DocumentTree) → json_due body ≡ Ok json → query_due json ≡ Ok text
-    → document_due text ≡ Ok document → valid_due schema document ≡ Ok document
+      → document_due text ≡ Ok document → valid_due schema document ≡ Ok document
       → operation_ask schema tables meta session json document ≡ Ok ask → IsMade schema tables meta session body ask
   document_made json text document read found parsed valid h =
       then_holds (operation_due json document) _ ask _ h (λ operation chosen more. then_holds (values_due schema json document operation) _ ask _ more

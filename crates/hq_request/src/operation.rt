@@ -62,9 +62,9 @@ fn ask_due(
     variables: &VarValues,
 ) -> Result<Ask, RequestRefusal>
     ensures { Gives ask_view RequestRefusal.Memory
-          (ask_due (schema_view schema.now) catalog.now.tables (meta_view meta.now) session.now (document_view document.now) operation
-             (map var_view variables.now))
-          result }
+        (ask_due (schema_view schema.now) catalog.now.tables (meta_view meta.now) session.now (document_view document.now) operation
+        (map var_view variables.now))
+        result }
 {
     Ok(build(
         alloc, document, operation, variables, schema, catalog, meta, session,
@@ -82,9 +82,9 @@ pub(crate) fn operation_ask(
     document: &Document,
 ) -> Result<Ask, RequestRefusal>
     ensures { Gives ask_view RequestRefusal.Memory
-          (operation_ask (schema_view schema.now) catalog.now.tables (meta_view meta.now) session.now (json_view body.now)
-             (document_view document.now))
-          result }
+        (operation_ask (schema_view schema.now) catalog.now.tables (meta_view meta.now) session.now (json_view body.now)
+        (document_view document.now))
+        result }
 {
     let operation = operation_due(body, document)?;
     let variables = values_due(alloc, schema, body, document, operation)?;

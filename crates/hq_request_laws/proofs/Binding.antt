@@ -82,9 +82,10 @@ module _ (read : List ℕ → Result Val Want) (test : Operand → Bool) (reads 
       let two = mapped_ok (λ bs. one.0 ∷ bs) (bound_operands read vars os) ps one.2 in
       let here = operand_bound o one.0 parts.0 one.1 in
       let later = operands_bound os two.0 parts.1 two.1 in
-      subst (λ l. (list_all test l ≡ true) × (list_all is_constant l ≡ true)) two.2
-        (and_from (test one.0) (list_all test two.0) here.0 later.0,
-           and_from (is_constant one.0) (list_all is_constant two.0) here.1 later.1)
+      subst (λ l. (list_all test l ≡ true) × (list_all is_constant l ≡ true)) two.2 (
+        and_from (test one.0) (list_all test two.0) here.0 later.0,
+        and_from (is_constant one.0) (list_all is_constant two.0) here.1 later.1,
+      )
 
 -- a pattern, as a test of operands
 patterns_read : (text : List ℕ) (v : Val) → read_pattern text ≡ Ok v → pattern_fits (Const v) ≡ true
@@ -109,7 +110,7 @@ module _ (s : Schema) (vars : List Var) where
   column_is t k test h = by (slice_get (table s t).columns k) refl h
     where
       by : (o : Option Column) → slice_get (table s t).columns k ≡ o → of_type test (option_map (λ (d : Column). d.ty) o) ≡ true
-        → (column_ty s t k ≡ Some (column s t k).ty) × (test (column s t k).ty ≡ true)
+          → (column_ty s t k ≡ Some (column s t k).ty) × (test (column s t k).ty ≡ true)
       by None is h = cc
       by (Some d) is h =
           let same : column s t k ≡ d = get_or_from_slice_get (table s t).columns k d no_column is in

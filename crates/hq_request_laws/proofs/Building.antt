@@ -106,7 +106,7 @@ module _ (tables : List Table) (m : MetaTree) (metadata_fits : fits tables m ≡
   schemed leads = record { fit = leads; stand = types_stand tables m role (and_parts _ _ (and_parts _ _ metadata_fits).0).0 }
 
   module _ (leads : Each (TypeFits R.types (access_of m role)) R.types) (trees : CollectedTrees) (limited : Limited trees) (fs : FieldTrees)
-    (asked : fields_due c R.query (length tables) trees ≡ Ok fs) (bs : List BoundTree)
+      (asked : fields_due c R.query (length tables) trees ≡ Ok fs) (bs : List BoundTree)
       (due : bounds_due role m s session.vars (touched fs s (length tables)) ≡ Ok bs) (bound : IsBound tables m session fs bs) where
     roots : AllRoots tables m metadata_fits role (schemed leads) vars low trees fs
     roots = roots_fit tables m metadata_fits role (schemed leads) vars low trees limited.kept fs asked

@@ -121,9 +121,10 @@ pattern_read (str s) o e = by (is_ok (pattern_of s)) refl e
 operands_all : (ty : Ty) (os : List Operand) → Each (OperandFits ty) os → (list_all (operand_fits ty) os ≡ true) × (list_all is_constant os ≡ true)
 operands_all ty [] h = (refl, refl)
 operands_all ty (o ∷ os) h =
-    let later = operands_all ty os h.1 in
-      (and_from (operand_fits ty o) (list_all (operand_fits ty) os) h.0.0 later.0,
-         and_from (is_constant o) (list_all is_constant os) h.0.1 later.1)
+    let later = operands_all ty os h.1 in (
+      and_from (operand_fits ty o) (list_all (operand_fits ty) os) h.0.0 later.0,
+      and_from (is_constant o) (list_all is_constant os) h.0.1 later.1,
+    )
 
 module _ (tables : List Table) (m : MetaTree) (metadata_fits : fits tables m ≡ true) (role : Role) (schemed : Schemed tables m role) (vars : List VarTree) where
   abbrev s : Schema
@@ -305,8 +306,8 @@ module _ (tables : List Table) (m : MetaTree) (metadata_fits : fits tables m ≡
     filter_writes (obj ms) p t at b e =
         let one = mapped_ok conjunction (members_due ms c p t) b e in
         deeper t (suc (suc (2 * members_nest ms))) (2 * suc (members_nest ms)) b (omega arith)
-          (subst (Writes t (suc (suc (2 * members_nest ms)))) one.2
-             (conjunction_writes t (suc (2 * members_nest ms)) one.0 (members_write ms p t at one.0 one.1)))
+        (subst (Writes t (suc (suc (2 * members_nest ms)))) one.2
+        (conjunction_writes t (suc (2 * members_nest ms)) one.0 (members_write ms p t at one.0 one.1)))
 
     filters_write : (j : JsonTree) (p t : ℕ) → At types p (type.Filter t) → (bs : List BexpTree) → filters_due j c p t ≡ Ok bs → Each (Writes t (2 * objects_nest j)) bs
     filters_write null p t at bs e = cc

@@ -54,7 +54,7 @@ abbrev after_where : Context → List ArgTree → List ArgumentTree → (t : ℕ
 after_where c args xs t wanted = order_by_due c t (given_named c args xs (codes "order_by")) >>= after_sorts c args xs wanted
 
 module _ (tables : List Table) (m : MetaTree) (metadata_fits : fits tables m ≡ true) (role : Role) (schemed : Schemed tables m role)
-  (vars : List VarTree) (low : Each (λ v. objects_nest v.value ≤ 127) vars) where
+    (vars : List VarTree) (low : Each (λ v. objects_nest v.value ≤ 127) vars) where
   abbrev s : Schema
   s = schema_of tables m
 
@@ -101,7 +101,7 @@ module _ (tables : List Table) (m : MetaTree) (metadata_fits : fits tables m ≡
     Sorted ks = Each (Sorts tables m metadata_fits role schemed vars u) ks × (nat_le (length ks) 100 ≡ true)
 
     sorts_by : (j : JsonTree) (ty : TypeRefTree) (o : ArgOrigin) → Reaches types ty (list_target (Some u) o) → objects_nest j ≤ 177
-      → (ks : List SortKey) → by_sorts c u j (base ty) o ≡ Ok ks → Sorted ks
+        → (ks : List SortKey) → by_sorts c u j (base ty) o ≡ Ok ks → Sorted ks
     sorts_by j ty stands.OrderBy at nest ks e = order_sorts tables m metadata_fits role schemed vars (base ty) u j at nest ks e
     sorts_by j ty o at nest ks e = let same : [] ≡ ks = cc in subst Sorted same (tt, refl)
 
@@ -122,7 +122,7 @@ module _ (tables : List Table) (m : MetaTree) (metadata_fits : fits tables m ≡
 
     -- all of them
     pub list_fits : (args : List ArgTree) (xs : List ArgumentTree) → Each (ArgFits types (list_target (Some u))) args
-      → arguments_nest xs ≤ 50 → (la : ListArguments) → list_due c args xs u ≡ Ok la → ListFits u la
+        → arguments_nest xs ≤ 50 → (la : ListArguments) → list_due c args xs u ≡ Ok la → ListFits u la
     list_fits args xs fit shallow la e =
         let here : (name : List ℕ) (g : Given) → given_named c args xs name ≡ Some g → IsHere g = λ name g is. given_low (ArgFits types (list_target (Some u))) c args xs name g fit shallow low is in
         let one = then_ok (after_where c args xs u) (where_due c u (given_named c args xs (codes "where"))) la e in

@@ -85,7 +85,7 @@ rows_found (g ∷ fs) (r ∷ rs) h name f e = by (bytes_eq g.name name) refl e (
 
 -- a row whose type is of introspection, or has no fields
 abbrev row : (f : FieldTree) (name : List ℕ) (t : Fixed) → base f.ty ≡ fixed_place t → f.name ≡ name
-  → bytes_eq (codes "__typename") name ≡ false → is_object (fixed_kind t) ≡ is_some (meta_of t) → RowIs f (name, meta_of t)
+    → bytes_eq (codes "__typename") name ≡ false → is_object (fixed_kind t) ≡ is_some (meta_of t) → RowIs f (name, meta_of t)
 row f name t leads is plain object = record { name = is; plain = plain; type = t; leads = leads; means = refl; object = object }
 
 schema_rows : RowsAre (introspection_fields fixed.Schema) (meta_fields schema_type)
@@ -265,14 +265,14 @@ module _ (tables : List Table) (m : MetaTree) (role : Role) (vars : List VarTree
   fields_are f type is name = cc
 
   module _ (f : Fixed) (type : MetaType) (is : meta_of f ≡ Some type) (t : ℕ) (h : FieldHead) (below : CollectedTrees) (inner : Inner below)
-    (apart : are_keys (keys_of below) ≡ true) (k : Known) (complete : is_complete R k.0 (is_empty below) ≡ true) where
+      (apart : are_keys (keys_of below) ≡ true) (k : Known) (complete : is_complete R k.0 (is_empty below) ≡ true) where
     -- what stands below it is accepted where its name is found
     accepted_by : (o : Option MetaType) → asked.meta_field type h.name ≡ Some o → (ls : IntrospectionTrees) → Accepted below o ls
-      → (deprecated : Bool) → OneLooked type below (look h.name None deprecated ls)
+        → (deprecated : Bool) → OneLooked type below (look h.name None deprecated ls)
     accepted_by o named ls acc deprecated = record { accepted = ap (accepts_below ls) named ∙ acc.0; levels = omega (arith, acc.1) }
 
     own_looked : find (λ (x : FieldTree). bytes_eq x.name h.name) (introspection_fields f) ≡ Some k.0 → (ls : IntrospectionTrees)
-      → looks_due c (leads_to k) t below ≡ Ok ls → (deprecated : Bool) → OneLooked type below (look h.name None deprecated ls)
+        → looks_due c (leads_to k) t below ≡ Ok ls → (deprecated : Bool) → OneLooked type below (look h.name None deprecated ls)
     own_looked found ls e deprecated =
         let r = rows_found (introspection_fields f) (meta_fields type) (is_meta f type is).rows h.name k.0 found in
         let row : RowIs k.0 r.0 = r.1 in
@@ -283,14 +283,14 @@ module _ (tables : List Table) (m : MetaTree) (role : Role) (vars : List VarTree
         accepted_by (r.0).1 named ls acc deprecated
 
     name_looked : k.0 ≡ type_name_field → bytes_eq (codes "__typename") h.name ≡ true → (ls : IntrospectionTrees)
-      → looks_due c (leads_to k) t below ≡ Ok ls → (deprecated : Bool) → OneLooked type below (look h.name None deprecated ls)
+        → looks_due c (leads_to k) t below ≡ Ok ls → (deprecated : Bool) → OneLooked type below (look h.name None deprecated ls)
     name_looked same is_name ls e deprecated =
         let named : asked.meta_field type h.name ≡ Some None = ap (λ b. cond b (Some None) (lookup (λ n. bytes_eq n h.name) (meta_fields type))) is_name in
         let leads : base k.0.ty ≡ fixed_place fixed.String = ap (λ (x : FieldTree). base x.ty) same in
         accepted_by None named ls (below_accepted fixed.String None refl refl t below inner apart k.0 leads complete ls e) deprecated
 
     found_looked : known_field R (Some (fixed_place f)) h.name ≡ Some k.0 → (ls : IntrospectionTrees)
-      → looks_due c (leads_to k) t below ≡ Ok ls → (deprecated : Bool) → OneLooked type below (look h.name None deprecated ls)
+        → looks_due c (leads_to k) t below ≡ Ok ls → (deprecated : Bool) → OneLooked type below (look h.name None deprecated ls)
     unfolding role_schema
     found_looked found ls e deprecated = by (field_of R (fixed_place f) h.name) refl found
       where
@@ -307,7 +307,7 @@ module _ (tables : List Table) (m : MetaTree) (role : Role) (vars : List VarTree
   -- ---- all fields
 
   pub looks_fit : (trees : CollectedTrees) → AreKept trees → (t : ℕ) (f : Fixed) (type : MetaType) → meta_of f ≡ Some type
-    → (ls : IntrospectionTrees) → looks_due c (fixed_place f) t trees ≡ Ok ls → Looked type trees ls
+      → (ls : IntrospectionTrees) → looks_due c (fixed_place f) t trees ≡ Ok ls → Looked type trees ls
   looks_fit no_collected kept t f type is ls e = let same : no_look ≡ ls = cc in subst (Looked type no_collected) same (record { accepted = refl; keys = refl; levels = omega arith })
   looks_fit (collected key h below others) kept t f type is ls e =
       let next : Known → Due IntrospectionTree = look_of h (λ (k : Known). looks_due c (leads_to k) t below) in

@@ -58,7 +58,7 @@ told_within : (k : TrackedTree) (o : Option PermTree) → Each (Within k) (permi
 told_within k None = tt
 told_within k (Some p) =
     with_within k (record { columns = []; filter = p.filter; limit = p.limit; aggregations = p.aggregations; masks = [] }) _
-      (each_filter (Within k) (λ c. list_any (λ d. d == c) p.cols) (named_columns k) (all_within k))
+    (each_filter (Within k) (λ c. list_any (λ d. d == c) p.cols) (named_columns k) (all_within k))
 
 permitted_within : (role : Role) (k : TrackedTree) → Each (Within k) (permitted_columns (permission_in role k))
 permitted_within Admin k = with_within k (record { columns = []; filter = always; limit = None; aggregations = true; masks = [] }) _ (all_within k)

@@ -86,7 +86,7 @@ module _ (tables : List Table) (m : MetaTree) (role : Role) (schemed : Schemed t
       third false is at e = cc
 
       second : (b : Bool) → bytes_eq (codes "__schema") name ≡ b → place ≡ 17
-        → cond b (Some schema_field) (cond (bytes_eq (codes "__type") name) (Some type_field) None) ≡ Some f → Found place o name f
+          → cond b (Some schema_field) (cond (bytes_eq (codes "__type") name) (Some type_field) None) ≡ Some f → Found place o name f
       second true is at e = let same : schema_field ≡ f = cc in of_schema at (sym same) (sym (same_text (codes "__schema") name is))
       second false is at e = third (bytes_eq (codes "__type") name) refl at e
 
@@ -114,7 +114,7 @@ module _ (tables : List Table) (m : MetaTree) (role : Role) (schemed : Schemed t
             fits = subst (λ q. FieldFits types a q g) is.means (found_each (FieldFits types a d.origin) (λ (x : FieldTree). bytes_eq x.name name) d.fields g inside fit).0;
             taken =
                 subst (λ q. TakenBy tables m role q g.origin) is.means
-                  (found_each (λ (x : FieldTree). TakenBy tables m role d.origin x.origin) (λ (x : FieldTree). bytes_eq x.name name) d.fields g inside taken).0;
+                (found_each (λ (x : FieldTree). TakenBy tables m role d.origin x.origin) (λ (x : FieldTree). bytes_eq x.name name) d.fields g inside taken).0;
           }
 
       by : (r : Option FieldTree) → field_of R place name ≡ r → option_or r (meta_field R place name) ≡ Some f → Found place o name f
@@ -141,7 +141,7 @@ module _ (tables : List Table) (m : MetaTree) (role : Role) (schemed : Schemed t
       let d : TypeTree = is.type in
       let inside : arg_in d.inputs name ≡ Some x = ap (option_and_then (λ (t : TypeTree). arg_in t.inputs name)) (sym is.here) ∙ e in
       subst (λ q. ArgFits types (input_target a q) x) is.means
-        (found_each (ArgFits types (input_target a d.origin)) (λ (y : ArgTree). bytes_eq y.name name) d.inputs x inside (each_at (TypeFits types a) types place d is.here schemed.fit).inputs).0
+      (found_each (ArgFits types (input_target a d.origin)) (λ (y : ArgTree). bytes_eq y.name name) d.inputs x inside (each_at (TypeFits types a) types place d is.here schemed.fit).inputs).0
 
   -- the columns of a table's enum are permitted
   pub column_found : (place t : ℕ) (name : List ℕ) (c : ℕ) → At types place (type.Columns t) → enum_column_of R place name ≡ Some c → a.column t c ≡ true

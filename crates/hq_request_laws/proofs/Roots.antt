@@ -57,7 +57,7 @@ use Rattle.hq_request_laws.proofs.Rows.{below_of, RowFacts, PartFacts, Inner, li
 use Rattle.hq_request_laws.proofs.BuildingSteps.{mapped_ok, then_ok, equal_texts}
 
 module _ (tables : List Table) (m : MetaTree) (metadata_fits : fits tables m ≡ true) (role : Role) (schemed : Schemed tables m role)
-  (vars : List VarTree) (low : Each (λ v. objects_nest v.value ≤ 127) vars) where
+    (vars : List VarTree) (low : Each (λ v. objects_nest v.value ≤ 127) vars) where
   abbrev s : Schema
   s = schema_of tables m
 
@@ -99,7 +99,7 @@ module _ (tables : List Table) (m : MetaTree) (metadata_fits : fits tables m ≡
     levels : field_levels f ≤ suc (levels_of below)
 
   module _ (h : FieldHead) (below : CollectedTrees) (shallow : arguments_nest h.args ≤ 50) (apart : are_keys (collect.keys_of below) ≡ true)
-    (kept : AreKept below) (k : Known) (complete : is_complete R k.0 (is_empty below) ≡ true) where
+      (kept : AreKept below) (k : Known) (complete : is_complete R k.0 (is_empty below) ≡ true) where
     inner : Inner tables m metadata_fits role schemed vars low below
     inner = all_fit tables m metadata_fits role schemed vars low below kept
 
@@ -117,7 +117,7 @@ module _ (tables : List Table) (m : MetaTree) (metadata_fits : fits tables m ≡
         })
 
     aggregate_root : (u : ℕ) → a.aggregates u ≡ true → At types (leads_to k) (type.Aggregate u)
-      → Each (ArgFits types (list_target (Some u))) k.0.args → by_origin c root k.0.args h.args (origin.RowsAggregate u) ≡ Ok k.1
+        → Each (ArgFits types (list_target (Some u))) k.0.args → by_origin c root k.0.args h.args (origin.RowsAggregate u) ≡ Ok k.1
         → (f : FieldTree) → Asked (origin.RowsAggregate u) f → OneRoot below f
     aggregate_root u granted at args due f e =
         let l = aggregate_is tables m metadata_fits role schemed vars low h below shallow apart inner k root (from_table u) u at args due f e in
@@ -145,7 +145,7 @@ module _ (tables : List Table) (m : MetaTree) (metadata_fits : fits tables m ≡
         })
 
     own_root : (o : FieldOrigin) → Reaches types k.0.ty (root_target a o) → Each (ArgFits types (root_args a o)) k.0.args
-      → by_origin c root k.0.args h.args o ≡ Ok k.1 → (f : FieldTree) → Asked o f → OneRoot below f
+        → by_origin c root k.0.args h.args o ≡ Ok k.1 → (f : FieldTree) → Asked o f → OneRoot below f
     own_root (origin.Rows u) at args due f e = by (a.seen u) refl at
       where
         by : (b : Bool) → a.seen u ≡ b → Reaches types k.0.ty (where_holds b (to (type.Rows u))) → OneRoot below f
@@ -185,8 +185,8 @@ module _ (tables : List Table) (m : MetaTree) (metadata_fits : fits tables m ≡
         let one = mapped_ok (λ (fs : IntrospectionTrees). introspect (look h.name None false fs)) (looks_due c (leads_to k) root below) f e in
         let leads : base k.0.ty ≡ fixed_place fixed.Schema = ap (λ (x : schema.FieldTree). base x.ty) is in
         let acc =
-            below_accepted tables m role vars fixed.Schema (Some schema_type) refl refl root below
-              (λ t f type is ls e. looks_fit tables m role vars below kept t f type is ls e) apart k.0 leads complete one.0 one.1 in
+        below_accepted tables m role vars fixed.Schema (Some schema_type) refl refl root below
+        (λ t f type is ls e. looks_fit tables m role vars below kept t f type is ls e) apart k.0 leads complete one.0 one.1 in
         subst (OneRoot below) one.2 (record {
           here = record {
             uses = tt;
@@ -210,8 +210,8 @@ module _ (tables : List Table) (m : MetaTree) (metadata_fits : fits tables m ≡
         let three = mapped_ok (λ (fs : IntrospectionTrees). introspect (look h.name (Some n) false fs)) (looks_due c (leads_to k) root below) f e' in
         let leads : base k.0.ty ≡ fixed_place fixed.«Type» = ap (λ (x : schema.FieldTree). base x.ty) is in
         let acc =
-            below_accepted tables m role vars fixed.«Type» (Some type_type) refl refl root below
-              (λ t f type is ls e. looks_fit tables m role vars below kept t f type is ls e) apart k.0 leads complete three.0 three.1 in
+        below_accepted tables m role vars fixed.«Type» (Some type_type) refl refl root below
+        (λ t f type is ls e. looks_fit tables m role vars below kept t f type is ls e) apart k.0 leads complete three.0 three.1 in
         subst (OneRoot below) three.2 (record {
           here = record {
             uses = tt;

@@ -59,7 +59,7 @@ below_of c t below k = record {
 }
 
 module _ (tables : List Table) (m : MetaTree) (metadata_fits : fits tables m ≡ true) (role : Role) (schemed : Schemed tables m role)
-  (vars : List VarTree) (low : Each (λ v. objects_nest v.value ≤ 127) vars) where
+    (vars : List VarTree) (low : Each (λ v. objects_nest v.value ≤ 127) vars) where
   abbrev s : Schema
   s = schema_of tables m
 
@@ -157,7 +157,7 @@ module _ (tables : List Table) (m : MetaTree) (metadata_fits : fits tables m ≡
         record { arguments = r.0; fields = one.0; is = one.2; fit = r.2; all = all; apart = ap are_keys all.keys ∙ apart }
 
     pub aggregate_is : (t : ℕ) (o : Origin) (u : ℕ) → At types (leads_to k) (type.Aggregate u)
-      → Each (ArgFits types (list_target (Some u))) k.0.args → mapped rows (list_due c k.0.args h.args u) ≡ Ok k.1
+        → Each (ArgFits types (list_target (Some u))) k.0.args → mapped rows (list_due c k.0.args h.args u) ≡ Ok k.1
         → (f : FieldTree) → and_then (with_below h (below_of c t below k)) (mapped (aggregate_head o u) (rows_of h k.1)) ≡ Ok f → IsAggregate below o u f
     aggregate_is t o u at args due f e =
         let r = rows_are u args due in
@@ -172,7 +172,7 @@ module _ (tables : List Table) (m : MetaTree) (metadata_fits : fits tables m ≡
       Asked o f = and_then (with_below h (below_of c t below k)) (head_by c place t h k o) ≡ Ok f
 
       object_row : (r : ℕ) (o : Option Rel) → a.rel t r ≡ o → Reaches types k.0.ty (behind_one o type.Rows) → (f : FieldTree)
-        → mapped (object r) (fields_due c (leads_to k) (rel s t r).remote below) ≡ Ok f → OneRow below t f
+          → mapped (object r) (fields_due c (leads_to k) (rel s t r).remote below) ≡ Ok f → OneRow below t f
       object_row r None is at f e = absurd at
       object_row r (Some q) is at f e = by q.many refl at
         where
@@ -186,9 +186,14 @@ module _ (tables : List Table) (m : MetaTree) (metadata_fits : fits tables m ≡
               let all = inner.rows (leads_to k) (rel s t r).remote (subst (λ u. At types (leads_to k) (type.Rows u)) there at) got.0 got.1 in
               subst (OneRow below t) got.2 (record {
                 here =
-                    record
-                      { uses = rel_allowed tables m metadata_fits role t r q is seen; stand = ap (λ (x : Rel). x.many) found.0
-                         ∙ one; fit = tt; keys = ap are_keys all.keys ∙ apart; named = tt };
+                    record {
+                      uses = rel_allowed tables m metadata_fits role t r q is seen;
+                      stand = ap (λ (x : Rel). x.many) found.0
+                          ∙ one;
+                      fit = tt;
+                      keys = ap are_keys all.keys ∙ apart;
+                      named = tt;
+                    };
                 under = all.every;
                 levels = omega (arith, all.levels);
               })
@@ -205,8 +210,8 @@ module _ (tables : List Table) (m : MetaTree) (metadata_fits : fits tables m ≡
               let there : q.remote ≡ (rel s t r).remote = sym (ap (λ (x : Rel). x.remote) found.0) in
               let seen = type_seen tables m role schemed (leads_to k) (type.Rows q.remote) at in
               let l =
-                  list_is t (along r) (rel s t r).remote (subst (λ u. At types (leads_to k) (type.Rows u)) there at)
-                    (subst (λ u. Each (ArgFits types (list_target (Some u))) k.0.args) there args) due f e in
+              list_is t (along r) (rel s t r).remote (subst (λ u. At types (leads_to k) (type.Rows u)) there at)
+              (subst (λ u. Each (ArgFits types (list_target (Some u))) k.0.args) there args) due f e in
               subst (OneRow below t) l.is (record {
                 here = record {
                   uses = (rel_allowed tables m metadata_fits role t r q is seen, l.fit.uses);
@@ -232,14 +237,15 @@ module _ (tables : List Table) (m : MetaTree) (metadata_fits : fits tables m ≡
               let there : q.remote ≡ (rel s t r).remote = sym (ap (λ (x : Rel). x.remote) found.0) in
               let seen = type_seen tables m role schemed (leads_to k) (type.Aggregate q.remote) at in
               let l =
-                  aggregate_is t (along r) (rel s t r).remote (subst (λ u. At types (leads_to k) (type.Aggregate u)) there at)
-                    (subst (λ u. Each (ArgFits types (list_target (Some u))) k.0.args) there args) due f e in
+              aggregate_is t (along r) (rel s t r).remote (subst (λ u. At types (leads_to k) (type.Aggregate u)) there at)
+              (subst (λ u. Each (ArgFits types (list_target (Some u))) k.0.args) there args) due f e in
               subst (OneRow below t) l.is (record {
                 here = record {
-                  uses =
-                      (rel_allowed tables m metadata_fits role t r q is seen,
-                         subst (λ u. ok.aggregates u ≡ true) there (aggregates_allowed tables m metadata_fits role q.remote granted),
-                         l.fit.uses);
+                  uses = (
+                    rel_allowed tables m metadata_fits role t r q is seen,
+                    subst (λ u. ok.aggregates u ≡ true) there (aggregates_allowed tables m metadata_fits role q.remote granted),
+                    l.fit.uses,
+                  );
                   stand = (ap (λ (x : Rel). x.many) found.0 ∙ many, l.fit.stand);
                   fit = l.fit.fit;
                   keys = l.apart;
@@ -250,7 +256,7 @@ module _ (tables : List Table) (m : MetaTree) (metadata_fits : fits tables m ≡
               })
 
       own_row : (o : FieldOrigin) → Reaches types k.0.ty (row_target a t o) → Each (ArgFits types (row_args a t o)) k.0.args
-        → by_origin c t k.0.args h.args o ≡ Ok k.1 → (f : FieldTree) → Asked o f → OneRow below t f
+          → by_origin c t k.0.args h.args o ≡ Ok k.1 → (f : FieldTree) → Asked o f → OneRow below t f
       own_row (origin.Column col) at args due f e = by (a.column t col) refl at
         where
           by : (b : Bool) → a.column t col ≡ b → Reaches types k.0.ty (where_holds b plain) → OneRow below t f
@@ -281,7 +287,7 @@ module _ (tables : List Table) (m : MetaTree) (metadata_fits : fits tables m ≡
           })
 
       one_row : At types place (type.Rows t) → Found tables m role schemed place (type.Rows t) h.name k.0
-        → by_origin c t k.0.args h.args k.0.origin ≡ Ok k.1 → (f : FieldTree) → Asked k.0.origin f → OneRow below t f
+          → by_origin c t k.0.args h.args k.0.origin ≡ Ok k.1 → (f : FieldTree) → Asked k.0.origin f → OneRow below t f
       one_row at (own i) due f e = own_row k.0.origin i.fits.reaches i.fits.args due f e
       one_row at (type_name is) due f e = name_row at f (subst (λ (x : schema.FieldTree). Asked x.origin f) is e)
       one_row at (of_schema root is n) due f e = let no : type.Query ≡ type.Rows t = root_is tables m role schemed (type.Rows t) (subst (λ p. At types p (type.Rows t)) root at) in cc
@@ -331,7 +337,7 @@ module _ (tables : List Table) (m : MetaTree) (metadata_fits : fits tables m ≡
   -- ---- all
 
   rows_one : (key : List ℕ) (h : FieldHead) (below others : CollectedTrees) → AreKept (collected key h below others) → Inner below
-    → Inner others → (place t : ℕ) → At types place (type.Rows t) → (fs : FieldTrees)
+      → Inner others → (place t : ℕ) → At types place (type.Rows t) → (fs : FieldTrees)
       → fields_due c place t (collected key h below others) ≡ Ok fs → AllRows (collected key h below others) t fs
   rows_one key h below others kept inner later place t at fs e =
       let next : Known → Due FieldTree = field_of c place t h (below_of c t below) in
@@ -350,7 +356,7 @@ module _ (tables : List Table) (m : MetaTree) (metadata_fits : fits tables m ≡
       })
 
   parts_one : (key : List ℕ) (h : FieldHead) (below others : CollectedTrees) → AreKept (collected key h below others) → Inner below
-    → Inner others → (place u : ℕ) → At types place (type.Aggregate u) → (ps : PartTrees)
+      → Inner others → (place u : ℕ) → At types place (type.Aggregate u) → (ps : PartTrees)
       → parts_due c place u (collected key h below others) ≡ Ok ps → AllParts (collected key h below others) u ps
   parts_one key h below others kept inner later place u at ps e =
       let next : Known → Due PartTree = λ k. part_by c place h (summaries_due c (leads_to k) u below) (fields_due c (leads_to k) u below) k.0.origin in

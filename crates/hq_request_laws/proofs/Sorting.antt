@@ -102,50 +102,50 @@ module _ (tables : List Table) (m : MetaTree) (metadata_fits : fits tables m ≡
 
     -- one member, where its value is read as an entry
     module _ (j : JsonTree)
-      (entry_sorts : (rs : List ℕ) (p t : ℕ) → At types p (type.Sort t) → Leads rs from t → length rs + objects_nest j ≤ 177
-         → (ks : List SortKey) → entry_due j c rs p t ≡ Ok ks → Each (Sorts from) ks)
+        (entry_sorts : (rs : List ℕ) (p t : ℕ) → At types p (type.Sort t) → Leads rs from t → length rs + objects_nest j ≤ 177
+        → (ks : List SortKey) → entry_due j c rs p t ≡ Ok ks → Each (Sorts from) ks)
       where
-      through_sorts : (rs : List ℕ) (t r p : ℕ) (o : Option Rel) → a.rel t r ≡ o → (ty : TypeRefTree) → Reaches types ty (behind_one o type.Sort) → base ty ≡ p → Leads rs from t
-          → suc (length rs) + objects_nest j ≤ 177 → (ks : List SortKey) → entry_due j c (rs ++ r ∷ []) p (rel s t r).remote ≡ Ok ks → Each (Sorts from) ks
-      through_sorts rs t r p None is ty at place leads low ks e = absurd at
-      through_sorts rs t r p (Some q) is ty at place leads low ks e = by q.many refl at
-        where
-          found : (rel s t r ≡ q) × (is_some (slice_get (table s t).rels r) ≡ true)
-          found = rel_at tables m metadata_fits role t r q is
+        through_sorts : (rs : List ℕ) (t r p : ℕ) (o : Option Rel) → a.rel t r ≡ o → (ty : TypeRefTree) → Reaches types ty (behind_one o type.Sort) → base ty ≡ p → Leads rs from t
+            → suc (length rs) + objects_nest j ≤ 177 → (ks : List SortKey) → entry_due j c (rs ++ r ∷ []) p (rel s t r).remote ≡ Ok ks → Each (Sorts from) ks
+        through_sorts rs t r p None is ty at place leads low ks e = absurd at
+        through_sorts rs t r p (Some q) is ty at place leads low ks e = by q.many refl at
+          where
+            found : (rel s t r ≡ q) × (is_some (slice_get (table s t).rels r) ≡ true)
+            found = rel_at tables m metadata_fits role t r q is
 
-          there : q.remote ≡ (rel s t r).remote
-          there = sym (ap (λ (x : Rel). x.remote) found.0)
+            there : q.remote ≡ (rel s t r).remote
+            there = sym (ap (λ (x : Rel). x.remote) found.0)
 
-          by : (b : Bool) → q.many ≡ b → Reaches types ty (where_holds (not b) (to (type.Sort q.remote))) → Each (Sorts from) ks
-          by true many at = absurd at
-          by false one at =
-              let place_at : At types p (type.Sort q.remote) = subst (λ n. At types n (type.Sort q.remote)) place at in
-              let allowed = rel_allowed tables m metadata_fits role t r q is (type_seen tables m role schemed p (type.Sort q.remote) place_at) in
-              let single : (rel s t r).many ≡ false = ap (λ (x : Rel). x.many) found.0 ∙ one in
-              let long : length (rs ++ r ∷ []) ≡ length rs + 1 = length-append rs (r ∷ []) in
-              entry_sorts (rs ++ r ∷ []) p (rel s t r).remote (subst (λ u. At types p (type.Sort u)) there place_at) (one_more rs from t r leads allowed single) (omega (arith, long, low)) ks e
+            by : (b : Bool) → q.many ≡ b → Reaches types ty (where_holds (not b) (to (type.Sort q.remote))) → Each (Sorts from) ks
+            by true many at = absurd at
+            by false one at =
+                let place_at : At types p (type.Sort q.remote) = subst (λ n. At types n (type.Sort q.remote)) place at in
+                let allowed = rel_allowed tables m metadata_fits role t r q is (type_seen tables m role schemed p (type.Sort q.remote) place_at) in
+                let single : (rel s t r).many ≡ false = ap (λ (x : Rel). x.many) found.0 ∙ one in
+                let long : length (rs ++ r ∷ []) ≡ length rs + 1 = length-append rs (r ∷ []) in
+                entry_sorts (rs ++ r ∷ []) p (rel s t r).remote (subst (λ u. At types p (type.Sort u)) there place_at) (one_more rs from t r leads allowed single) (omega (arith, long, low)) ks e
 
-      origin_sorts : (rs : List ℕ) (t : ℕ) (ty : TypeRefTree) (o : ArgOrigin) → Reaches types ty (sort_target a t o) → Leads rs from t → suc (length rs) + objects_nest j ≤ 177 → (ks : List SortKey)
-          → by_origin (λ deeper q u. entry_due j c deeper q u) j c rs t (base ty) o ≡ Ok ks → Each (Sorts from) ks
-      origin_sorts rs t ty (stands.Column k) at leads low ks e = by (a.column t k) refl at
-        where
-          by : (b : Bool) → a.column t k ≡ b → Reaches types ty (where_holds b (to type.Directions)) → Each (Sorts from) ks
-          by true is at = column_sorts rs t k j leads (omega (arith, low)) is ks e
-          by false is at = absurd at
-      origin_sorts rs t ty (stands.Relationship r) at leads low ks e = through_sorts rs t r (base ty) (a.rel t r) refl ty at refl leads low ks e
-      origin_sorts rs t ty o at leads low ks e = cc
+        origin_sorts : (rs : List ℕ) (t : ℕ) (ty : TypeRefTree) (o : ArgOrigin) → Reaches types ty (sort_target a t o) → Leads rs from t → suc (length rs) + objects_nest j ≤ 177 → (ks : List SortKey)
+            → by_origin (λ deeper q u. entry_due j c deeper q u) j c rs t (base ty) o ≡ Ok ks → Each (Sorts from) ks
+        origin_sorts rs t ty (stands.Column k) at leads low ks e = by (a.column t k) refl at
+          where
+            by : (b : Bool) → a.column t k ≡ b → Reaches types ty (where_holds b (to type.Directions)) → Each (Sorts from) ks
+            by true is at = column_sorts rs t k j leads (omega (arith, low)) is ks e
+            by false is at = absurd at
+        origin_sorts rs t ty (stands.Relationship r) at leads low ks e = through_sorts rs t r (base ty) (a.rel t r) refl ty at refl leads low ks e
+        origin_sorts rs t ty o at leads low ks e = cc
 
-      member_sorts : (rs : List ℕ) (p t : ℕ) (name : List ℕ) → At types p (type.Sort t) → Leads rs from t → suc (length rs) + objects_nest j ≤ 177 → (ks : List SortKey)
-          → member_due (λ deeper q u. entry_due j c deeper q u) j c rs t (input_field_of R p name) ≡ Ok ks → Each (Sorts from) ks
-      member_sorts rs p t name at leads low ks e = by (input_field_of R p name) refl e
-        where
-          by : (x : Option ArgTree) → input_field_of R p name ≡ x → member_due (λ deeper q u. entry_due j c deeper q u) j c rs t x ≡ Ok ks → Each (Sorts from) ks
-          by None is e = cc
-          by (Some x) is e = origin_sorts rs t x.ty x.origin (input_found tables m role schemed p (type.Sort t) name x at is).reaches leads low ks e
+        member_sorts : (rs : List ℕ) (p t : ℕ) (name : List ℕ) → At types p (type.Sort t) → Leads rs from t → suc (length rs) + objects_nest j ≤ 177 → (ks : List SortKey)
+            → member_due (λ deeper q u. entry_due j c deeper q u) j c rs t (input_field_of R p name) ≡ Ok ks → Each (Sorts from) ks
+        member_sorts rs p t name at leads low ks e = by (input_field_of R p name) refl e
+          where
+            by : (x : Option ArgTree) → input_field_of R p name ≡ x → member_due (λ deeper q u. entry_due j c deeper q u) j c rs t x ≡ Ok ks → Each (Sorts from) ks
+            by None is e = cc
+            by (Some x) is e = origin_sorts rs t x.ty x.origin (input_found tables m role schemed p (type.Sort t) name x at is).reaches leads low ks e
 
     mutual
       entry_sorts : (j : JsonTree) (rs : List ℕ) (p t : ℕ) → At types p (type.Sort t) → Leads rs from t → length rs + objects_nest j ≤ 177
-        → (ks : List SortKey) → entry_due j c rs p t ≡ Ok ks → Each (Sorts from) ks
+          → (ks : List SortKey) → entry_due j c rs p t ≡ Ok ks → Each (Sorts from) ks
       entry_sorts null rs p t at leads low ks e = cc
       entry_sorts (bool b) rs p t at leads low ks e = cc
       entry_sorts (int n) rs p t at leads low ks e = cc
@@ -154,7 +154,7 @@ module _ (tables : List Table) (m : MetaTree) (metadata_fits : fits tables m ≡
       entry_sorts (obj ms) rs p t at leads low ks e = members_sort ms rs p t at leads (omega (arith, low)) ks e
 
       members_sort : (ms : MemberTrees) (rs : List ℕ) (p t : ℕ) → At types p (type.Sort t) → Leads rs from t
-        → suc (length rs) + members_nest ms ≤ 177 → (ks : List SortKey) → members_due ms c rs p t ≡ Ok ks → Each (Sorts from) ks
+          → suc (length rs) + members_nest ms ≤ 177 → (ks : List SortKey) → members_due ms c rs p t ≡ Ok ks → Each (Sorts from) ks
       members_sort no_member rs p t at leads low ks e = let same : [] ≡ ks = cc in subst (Each (Sorts from)) same tt
       members_sort (member name j ms) rs p t at leads low ks e =
           let due = member_due (λ deeper q u. entry_due j c deeper q u) j c rs t (input_field_of R p name) in

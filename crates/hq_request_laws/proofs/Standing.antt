@@ -53,7 +53,7 @@ abbrev IsNew : List TrackedTree → TrackedTree → Type 0
 IsNew front k = list_any (λ (j : TrackedTree). j.table == k.table) front ≡ false
 
 new_more : (front : List TrackedTree) (k : TrackedTree) (ks : List TrackedTree) → Each (IsNew front) ks
-  → list_any (λ (x : TrackedTree). k.table == x.table) ks ≡ false → Each (IsNew (front ++ k ∷ [])) ks
+    → list_any (λ (x : TrackedTree). k.table == x.table) ks ≡ false → Each (IsNew (front ++ k ∷ [])) ks
 new_more front k [] h g = tt
 new_more front k (x ∷ ks) h g =
     let p : TrackedTree → Bool = λ (j : TrackedTree). j.table == x.table in
@@ -62,7 +62,7 @@ new_more front k (x ∷ ks) h g =
     (here, new_more front k ks h.1 other.1)
 
 firsts_are : (front ks : List TrackedTree) → all_differ (λ (j k : TrackedTree). j.table == k.table) ks ≡ true → Each (IsNew front) ks
-  → Each (λ (k : TrackedTree). find (λ (j : TrackedTree). j.table == k.table) (front ++ ks) ≡ Some k) ks
+    → Each (λ (k : TrackedTree). find (λ (j : TrackedTree). j.table == k.table) (front ++ ks) ≡ Some k) ks
 firsts_are front [] differ new = tt
 firsts_are front (k ∷ ks) differ new =
     let p : TrackedTree → Bool = λ (j : TrackedTree). j.table == k.table in
@@ -103,7 +103,7 @@ module _ (tables : List Table) (m : MetaTree) (role : Role) where
           ap (λ u. option_map (λ (d : Column). d.ty) (slice_get u.columns c)) (table_present tables m k.table t here) ∙ ap (option_map (λ (d : Column). d.ty)) at
 
       by : (t : Option Table) (p : Option Permission) → slice_get tables k.table ≡ t → permission role m k.table ≡ p
-        → IfSome (option_and_then (λ (t : Table). option_map (shown_table k t) p) t) IsShown
+          → IfSome (option_and_then (λ (t : Table). option_map (shown_table k t) p) t) IsShown
       by None p here granted = tt
       by (Some t) None here granted = tt
       by (Some t) (Some p) here granted = record {
@@ -194,7 +194,7 @@ module _ (tables : List Table) (m : MetaTree) (role : Role) where
   greatest_tested t c typed = by (has_greatest c) refl
     where
       by : (b : Bool) → has_greatest c ≡ b
-        → IfSome (option_map (λ r. plain_field c.name r (field.Column c.col)) (cond b (Some (fixed (scalar_of c.ty))) None))
+          → IfSome (option_map (λ r. plain_field c.name r (field.Column c.col)) (cond b (Some (fixed (scalar_of c.ty))) None))
           (λ (f : FieldTree). ColumnIs (λ ty. not (is_boolean ty)) t f.origin)
       by true e = ap (of_type (λ ty. not (is_boolean ty))) typed ∙ e
       by false e = tt
@@ -215,17 +215,23 @@ module _ (tables : List Table) (m : MetaTree) (role : Role) where
   part_stands p ls shown Aggregate = record { is_seen = shown.is_seen; name = ap (λ n. n ++ codes "_aggregate") shown.name; taken = plain (part_fields p.first p.shown.columns ls Aggregate) }
   part_stands p ls shown AggregateFields = record { is_seen = tt; name = ap (λ n. n ++ codes "_aggregate_fields") shown.name; taken = plain (part_fields p.first p.shown.columns ls AggregateFields) }
   part_stands p ls shown Max =
-      record
-        { is_seen = tt; name = ap (λ n. n ++ codes "_max_fields") shown.name;
-           taken = tested (λ ty. not (is_boolean ty)) Max p.shown.table (greatest_tested p.shown.table) p.shown.columns shown.columns }
+      record {
+        is_seen = tt;
+        name = ap (λ n. n ++ codes "_max_fields") shown.name;
+        taken = tested (λ ty. not (is_boolean ty)) Max p.shown.table (greatest_tested p.shown.table) p.shown.columns shown.columns;
+      }
   part_stands p ls shown Min =
-      record
-        { is_seen = tt; name = ap (λ n. n ++ codes "_min_fields") shown.name;
-           taken = tested (λ ty. not (is_boolean ty)) Min p.shown.table (greatest_tested p.shown.table) p.shown.columns shown.columns }
+      record {
+        is_seen = tt;
+        name = ap (λ n. n ++ codes "_min_fields") shown.name;
+        taken = tested (λ ty. not (is_boolean ty)) Min p.shown.table (greatest_tested p.shown.table) p.shown.columns shown.columns;
+      }
   part_stands p ls shown Sum =
-      record
-        { is_seen = tt; name = ap (λ n. n ++ codes "_sum_fields") shown.name;
-           taken = tested is_whole Sum p.shown.table (sum_tested p.shown.table) p.shown.columns shown.columns }
+      record {
+        is_seen = tt;
+        name = ap (λ n. n ++ codes "_sum_fields") shown.name;
+        taken = tested is_whole Sum p.shown.table (sum_tested p.shown.table) p.shown.columns shown.columns;
+      }
 
   -- all types of the schema
   pub types_stand : all_differ (λ (j k : TrackedTree). j.table == k.table) m.tracked ≡ true → Each Stands (role_schema tables m role).types

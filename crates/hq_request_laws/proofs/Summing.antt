@@ -61,7 +61,7 @@ use Rattle.hq_request_laws.proofs.Standing.{NamedBy, ColumnIs}
 use Rattle.hq_request_laws.proofs.BuildingSteps.{mapped_ok, then_ok, equal_texts}
 
 module _ (tables : List Table) (m : MetaTree) (metadata_fits : fits tables m ≡ true) (role : Role) (schemed : Schemed tables m role)
-  (vars : List VarTree) (low : Each (λ v. objects_nest v.value ≤ 127) vars) where
+    (vars : List VarTree) (low : Each (λ v. objects_nest v.value ≤ 127) vars) where
   abbrev s : Schema
   s = schema_of tables m
 
@@ -116,14 +116,14 @@ module _ (tables : List Table) (m : MetaTree) (metadata_fits : fits tables m ≡
       pub levels : taken_levels cs ≤ levels_of trees
 
     own_taken : (place : ℕ) (h : FieldHead) (ty : TypeRefTree) (o : FieldOrigin) → Reaches types ty (column_target a u o)
-      → ColumnIs tables m role test u o → (f : AggCol) → taken_by c place h o ≡ Ok f → OneTaken f
+        → ColumnIs tables m role test u o → (f : AggCol) → taken_by c place h o ≡ Ok f → OneTaken f
     own_taken place h ty (origin.Column k) at is f e = by (a.column u k) refl at
       where
         by : (b : Bool) → a.column u k ≡ b → Reaches types ty (where_holds b plain) → OneTaken f
         by true permitted at =
             let same : of.Column k
-              ≡ f = cc in subst OneTaken same
-                (record { uses = column_allowed tables m metadata_fits role u k permitted; fit = taking.columns k is; named = tt })
+            ≡ f = cc in subst OneTaken same
+            (record { uses = column_allowed tables m metadata_fits role u k permitted; fit = taking.columns k is; named = tt })
         by false permitted at = absurd at
     own_taken place h ty o at is f e = absurd at
 
@@ -187,7 +187,7 @@ module _ (tables : List Table) (m : MetaTree) (metadata_fits : fits tables m ≡
     counted_ok (Some g) h x e = counted_by g.value g.arg.ty g.arg.origin (h g refl).reaches x e
 
     count_summary : (below : CollectedTrees) (args : List ArgTree) (h : FieldHead) → Each (ArgFits types (count_target u)) args
-      → arguments_nest h.args ≤ 50 → (x : FieldArguments) → count_due c args h.args ≡ Ok x
+        → arguments_nest h.args ≤ 50 → (x : FieldArguments) → count_due c args h.args ≡ Ok x
         → (f : AggField) → mapped (λ (y : Option ℕ × Bool). take.Count y.0 y.1) (count_of h x) ≡ Ok f → OneSummary below f
     count_summary below args h fit shallow x due f e =
         let column = given_named c args h.args (codes "columns") in
@@ -197,7 +197,7 @@ module _ (tables : List Table) (m : MetaTree) (metadata_fits : fits tables m ≡
         let same : count one.0 two.0 ≡ x = cc in
         let counted : UsesCounted one.0 ok u = counted_ok column (λ g is. (given_low (ArgFits types (count_target u)) c args h.args (codes "columns") g fit shallow low is).0) one.0 one.1 in
         let e' : mapped (λ (y : Option ℕ × Bool). take.Count y.0 y.1) (count_of h (count one.0 two.0)) ≡ Ok f =
-            subst (λ y. mapped (λ (z : Option ℕ × Bool). take.Count z.0 z.1) (count_of h y) ≡ Ok f) (sym same) e in
+        subst (λ y. mapped (λ (z : Option ℕ × Bool). take.Count z.0 z.1) (count_of h y) ≡ Ok f) (sym same) e in
         let last : take.Count one.0 two.0 ≡ f = cc in
         subst (OneSummary below) last (record { uses = counted; fit = refl; keys = tt; named = tt; levels = omega arith })
 
@@ -234,19 +234,19 @@ module _ (tables : List Table) (m : MetaTree) (metadata_fits : fits tables m ≡
       one_summary at (type_name is) due f e = name_summary at f (subst (λ (x : FieldTree). summary_by c place h k (taken_due c (leads_to k) u below) x.origin ≡ Ok f) is e)
       one_summary at (of_schema root is n) due f e =
           let no : type.Query
-            ≡ type.AggregateFields u = root_is tables m role schemed (type.AggregateFields u)
-              (subst (λ p. At types p (type.AggregateFields u)) root at) in cc
+          ≡ type.AggregateFields u = root_is tables m role schemed (type.AggregateFields u)
+          (subst (λ p. At types p (type.AggregateFields u)) root at) in cc
       one_summary at (of_type_field root is n) due f e =
           let no : type.Query
-            ≡ type.AggregateFields u = root_is tables m role schemed (type.AggregateFields u)
-              (subst (λ p. At types p (type.AggregateFields u)) root at) in cc
+          ≡ type.AggregateFields u = root_is tables m role schemed (type.AggregateFields u)
+          (subst (λ p. At types p (type.AggregateFields u)) root at) in cc
 
     pub summaries_fit : (trees : CollectedTrees) → AreKept trees → (place : ℕ) → At types place (type.AggregateFields u)
-      → (fs : List KeyedAggField) → summaries_due c place u trees ≡ Ok fs → Summary trees fs
+        → (fs : List KeyedAggField) → summaries_due c place u trees ≡ Ok fs → Summary trees fs
     summaries_fit no_collected kept place at fs e =
         let same : []
-          ≡ fs = cc in subst (Summary no_collected) same
-            (record { uses = tt; fit = refl; keys = refl; each_keys = tt; named = tt; levels = omega arith })
+        ≡ fs = cc in subst (Summary no_collected) same
+        (record { uses = tt; fit = refl; keys = refl; each_keys = tt; named = tt; levels = omega arith })
     summaries_fit (collected key h below others) kept place at fs e =
         let next : Known → Due AggField = λ k. summary_by c place h k (taken_due c (leads_to k) u below) k.0.origin in
         let due = known_due c place u h (is_empty below) >>= next in

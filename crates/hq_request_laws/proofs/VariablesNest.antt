@@ -36,7 +36,7 @@ number_nests None = omega arith
 number_nests (Some n) = omega arith
 
 with_element_nests : (o : Option JsonTree) (js : List JsonTree) (n m : ℕ) → ((x : JsonTree) → o ≡ Some x → objects_nest x ≤ n)
-  → elements_nest (elements_of js) ≤ m → elements_nest (elements_of (with_element o js)) ≤ max n m
+    → elements_nest (elements_of js) ≤ m → elements_nest (elements_of (with_element o js)) ≤ max n m
 with_element_nests None js n m h k = omega arith
 with_element_nests (Some x) js n m h k = let first = h x refl in omega arith
 
@@ -126,7 +126,7 @@ checked_within n at required (Some j) x h e =
     go (required && is_null j) e
 
 value_within : (s : SchemaTree) (n at : ℕ) (required : Bool) (r : TypeRefTree) (given : Option JsonTree) (x : JsonTree) → Within n given
-  → value_due s at required r given ≡ Ok (Some x) → objects_nest x ≤ n
+    → value_due s at required r given ≡ Ok (Some x) → objects_nest x ≤ n
 value_within s n at required r None x h e =
     let go : (b : Bool) → cond b (Err (refused at)) (Ok None) ≡ Ok (Some x) → objects_nest x ≤ n = elim [ true ↦ λ k. absurd cc | false ↦ λ k. absurd cc ] in
     go (is_non_null r) e
@@ -134,7 +134,7 @@ value_within s n at required r (Some j) x h e =
     checked_within n at required (coerced s j r) x (λ y k. let top = h j refl in let below = coerced_nests s j r y k in omega arith) e
 
 known_within : (s : SchemaTree) (n at : ℕ) (required : Bool) (o : Option TypeRefTree) (given : Option JsonTree) (x : JsonTree)
-  → Within n given → value_if_known s at required o given ≡ Ok (Some x) → objects_nest x ≤ n
+    → Within n given → value_if_known s at required o given ≡ Ok (Some x) → objects_nest x ≤ n
 known_within s n at required None given x h e = absurd cc
 known_within s n at required (Some r) given x h e = value_within s n at required r given x h e
 
@@ -148,7 +148,7 @@ with_shallow n name (Some j) vars h k = (h j refl, k)
 
 values_shallow : (s : SchemaTree) (required : List ℕ → Bool) (given : Option JsonTree) (n : ℕ) (defs : List VarDefTree)
     (vars : List VarTree)
-  → Within n given → vars_nest defs ≤ n → values_due s required (given_members given) defs ≡ Ok vars → Shallow n vars
+    → Within n given → vars_nest defs ≤ n → values_due s required (given_members given) defs ≡ Ok vars → Shallow n vars
 values_shallow s required given n [] vars h k e = let same : [] ≡ vars = cc in subst (Shallow n) same tt
 values_shallow s required given n (v ∷ vs) vars h k e =
     let p = then_ok (λ o. mapped (with_value v.name o) (values_due s required (given_members given) vs)) (variable_due s required (given_members given) v) vars e in
@@ -156,7 +156,7 @@ values_shallow s required given n (v ∷ vs) vars h k e =
     let rest = values_shallow s required given n vs q.0 h (omega arith) q.1 in
     let one : Within n p.0 =
     λ x same. known_within s n v.at (required v.name) (resolved s v.ty) (given_value (given_members given) v) x
-      (given_within given v n h (omega arith)) (subst (λ o. variable_due s required (given_members given) v ≡ Ok o) same p.1) in
+    (given_within given v n h (omega arith)) (subst (λ o. variable_due s required (given_members given) v ≡ Ok o) same p.1) in
     subst (Shallow n) q.2 (with_shallow n v.name p.0 q.0 one rest)
 
 -- the variables of an operation of a document nest as the document does
@@ -171,7 +171,7 @@ place_nests (c ∷ ds) zero d h = let same : c ≡ d = cc in subst (λ x. defini
 place_nests (c ∷ ds) (suc i) d h = let rest = place_nests ds i d h in omega arith
 
 pub variables_shallow : (s : SchemaTree) (d : DocumentTree) (op : ℕ) (given : Option JsonTree) (n : ℕ) (vars : List VarTree)
-  → document_nest d ≤ n → Within n given → variables_due s d op given ≡ Ok vars → Shallow n vars
+    → document_nest d ≤ n → Within n given → variables_due s d op given ≡ Ok vars → Shallow n vars
 variables_shallow s d op given n vars h k e =
     values_shallow s (is_required s d op) given n (variables_of (operation_at d op)) vars k
     (operation_nests (slice_get d op) n (λ c is. let one = place_nests d op c is in omega arith)) e

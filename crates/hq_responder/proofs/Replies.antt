@@ -44,7 +44,7 @@ module _ (tables : List Table) (meta : MetaTree) (session : Session) (database :
   answered_is (Err request.Memory) reply status built fault told = absurd cc
 
 module _ (engine : Engine) (session : Session) (database : Option (List (List Row))) (body : List ℕ) (reply : Reply)
-  (status : reply.status ≡ 200) (built : is_answered (engine_request engine session body) ≡ true)
+    (status : reply.status ≡ 200) (built : is_answered (engine_request engine session body) ≡ true)
     (fault : IfSome (engine_fault engine session body) (λ f. reply.body ≡ fault_text f)) where
   -- the same over another database
   answered_over : (d : List (List Row)) → engine_reply engine session d body ≡ Some reply.body → is_due engine.catalog.tables (meta_view engine.meta) session (Some d) body reply
@@ -74,8 +74,8 @@ gives_same allows rule engine database now same headers body reply h =
 
 -- what is served by a rule is served by the same
 pub serves_by : {L : Type 0} (kept rule : SecretRule) (tables : List Table) (meta : MetaTree) (database : Option (List (List Row)))
-  (t : Told L) (n a a' : ℕ) (links links' : Option (List L)) (f f' : ℕ) (w w' : Option (List ℕ)) (result : Result (Unit {0}) ServeRefusal)
+    (t : Told L) (n a a' : ℕ) (links links' : Option (List L)) (f f' : ℕ) (w w' : Option (List ℕ)) (result : Result (Unit {0}) ServeRefusal)
     → kept ≡ rule → Serves (denies kept) (gives kept tables meta database) t n a a' links links' f f' w w' result
-      → Serves (denies rule) (gives rule tables meta database) t n a a' links links' f f' w w' result
+    → Serves (denies rule) (gives rule tables meta database) t n a a' links links' f f' w w' result
 serves_by kept rule tables meta database t n a a' links links' f f' w w' result same h =
     subst (λ (r : SecretRule). Serves (denies r) (gives r tables meta database) t n a a' links links' f f' w w' result) same h

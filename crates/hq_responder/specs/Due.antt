@@ -54,7 +54,7 @@ is_due_of engine session database body reply = IsDueAlike engine.catalog.tables 
 
 -- its hook keeps its rule, and its database has the engine's catalog
 pub record IsReady {P F D : Type 0} (g : Shared F (Bor (List Header) × Unit {0}) HookAnswer)
-  (allows : P → List Header → HookAnswer → Type 0) (tables : D → List Table) (r : EngineResponder P F D) : Type 0 where
+    (allows : P → List Header → HookAnswer → Type 0) (tables : D → List Table) (r : EngineResponder P F D) : Type 0 where
   pub hook : KeepsRule g allows r.hook
   pub catalog : tables r.db ≡ r.engine.catalog.tables
 

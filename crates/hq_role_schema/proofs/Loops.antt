@@ -7,7 +7,7 @@ use Rattle.std.proofs.lemmas.List.{take_more, drop_more, map-append, append-nil,
 
 -- the values of the items so far, and that of the next
 pub map_take-more : {A V : Type 0} (f : A → V) (xs : List A) (i : ℕ) (d : A) (done more : List V) → done ≡ map f (take i xs) → i < length xs
-  → more ≡ done ++ f (get_or xs i d) ∷ [] → more ≡ map f (take (i + 1) xs)
+    → more ≡ done ++ f (get_or xs i d) ∷ [] → more ≡ map f (take (i + 1) xs)
 map_take-more f xs i d done more so_far below grows =
     grows
     ∙ ap (λ vs. vs ++ f (get_or xs i d) ∷ []) so_far
@@ -16,8 +16,8 @@ map_take-more f xs i d done more so_far below grows =
 
 -- the values of the items so far, those of the next, and those of the rest
 pub flat_map_drop-more : {A V : Type 0} (f : A → List V) (xs : List A) (i : ℕ) (x : A) (done more whole : List V)
-  → done ++ flat_map f (drop i xs) ≡ whole → i < length xs → x ≡ get_or xs i x → more ≡ done ++ f x
-  → more ++ flat_map f (drop (i + 1) xs) ≡ whole
+    → done ++ flat_map f (drop i xs) ≡ whole → i < length xs → x ≡ get_or xs i x → more ≡ done ++ f x
+    → more ++ flat_map f (drop (i + 1) xs) ≡ whole
 flat_map_drop-more f xs i x done more whole so_far below is grows =
     ap (λ vs. vs ++ flat_map f (drop (i + 1) xs)) (grows ∙ ap (λ z. done ++ f z) is)
     ∙ append_assoc done (f (get_or xs i x)) (flat_map f (drop (i + 1) xs))
@@ -26,7 +26,7 @@ flat_map_drop-more f xs i x done more whole so_far below is grows =
 
 -- the values so far, that of the next, and those of the rest
 pub map_drop-more : {A V : Type 0} (f : A → V) (xs : List A) (i : ℕ) (d : A) (done more whole : List V) → done ++ map f (drop i xs) ≡ whole
-  → i < length xs → more ≡ done ++ f (get_or xs i d) ∷ [] → more ++ map f (drop (i + 1) xs) ≡ whole
+    → i < length xs → more ≡ done ++ f (get_or xs i d) ∷ [] → more ++ map f (drop (i + 1) xs) ≡ whole
 map_drop-more f xs i d done more whole so_far below grows =
     ap (λ vs. vs ++ map f (drop (i + 1) xs)) grows
     ∙ append_assoc done (f (get_or xs i d) ∷ []) (map f (drop (i + 1) xs))
@@ -40,8 +40,8 @@ filter_map-first f (Some v) x xs e = rw e refl
 
 -- the values so far, that of the next if it gives one, and those of the rest
 pub filter_map_drop-more : {A V : Type 0} (f : A → Option V) (xs : List A) (i : ℕ) (x : A) (o : Option V) (done more whole : List V)
-  → done ++ filter_map f (drop i xs) ≡ whole → i < length xs → x ≡ get_or xs i x → f x ≡ o → more ≡ done ++ option_to_list o
-  → more ++ filter_map f (drop (i + 1) xs) ≡ whole
+    → done ++ filter_map f (drop i xs) ≡ whole → i < length xs → x ≡ get_or xs i x → f x ≡ o → more ≡ done ++ option_to_list o
+    → more ++ filter_map f (drop (i + 1) xs) ≡ whole
 filter_map_drop-more f xs i x o done more whole so_far below is gives grows =
     ap (λ vs. vs ++ filter_map f (drop (i + 1) xs)) grows
     ∙ append_assoc done (option_to_list o) (filter_map f (drop (i + 1) xs))

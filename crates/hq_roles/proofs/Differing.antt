@@ -72,7 +72,7 @@ tables_named ps first (t ∷ ts) =
     let ls = links_from ps 0 t.rels in
     map-append (λ (t : TypeTree). t.name) (types_with p ls) (flat_map (table_types ps) (placed_from (first + part_count t) ts))
     ∙ (ap (λ xs. xs ++ map (λ (t : TypeTree). t.name) (flat_map (table_types ps) (placed_from (first + part_count t) ts)))
-      (map_map (λ (t : TypeTree). t.name) (part_type p ls) (take (part_count t) all_parts))
+    (map_map (λ (t : TypeTree). t.name) (part_type p ls) (take (part_count t) all_parts))
     ∙ ap (λ xs. type_names t ++ xs) (tables_named ps (first + part_count t) ts))
 
 fixed_named : (ps : List PlacedTable) → map (λ (t : TypeTree). t.name) (fixed_types ps) ≡ admin.fixed_types
@@ -88,9 +88,9 @@ roots_named first (t ∷ ts) =
     ∙ ap (λ xs. root_names t ++ xs) (roots_named (first + part_count t) ts))
   where
     by : (g : Bool) (o : Option (List ShownColumn))
-      → map field_name
-          (cond g (aggregate_field t.roots.select_aggregate first (field.RowsAggregate t.table) ∷ []) []
-             ++ key_fields (record { shown = t; first = first }) o)
+        → map field_name
+        (cond g (aggregate_field t.roots.select_aggregate first (field.RowsAggregate t.table) ∷ []) []
+        ++ key_fields (record { shown = t; first = first }) o)
         ≡ cond g (t.roots.select_aggregate ∷ []) [] ++ key_names t.roots o
     by true None = refl
     by true (Some key) = refl
@@ -107,8 +107,8 @@ pub record TableDiffers (ps : List PlacedTable) (t : ShownTable) : Type 0 where
   pub key : IfSome t.key (λ (key : List ShownColumn). differ (map column_name key) ≡ true)
 
 module _ (m : MetaTree) (ps : List PlacedTable) (seen : Each (λ (p : PlacedTable). admin.is_in_schema m p.shown.table ≡ true) ps)
-  (k : TrackedTree) (own : (differ (admin.fields_of m k) && differ (admin.inputs_of m k)) ≡ true) (tb : Table)
-  (key_differs : all_differ (λ (c d : ℕ). c == d) tb.key ≡ true) (p : Permission) (chosen : Sub p.columns (named_columns k)) where
+    (k : TrackedTree) (own : (differ (admin.fields_of m k) && differ (admin.inputs_of m k)) ≡ true) (tb : Table)
+    (key_differs : all_differ (λ (c d : ℕ). c == d) tb.key ≡ true) (p : Permission) (chosen : Sub p.columns (named_columns k)) where
   abbrev rel_names : List (List ℕ)
   rel_names = map (λ r. r.name) (admin.rels_in_schema m k)
 
@@ -148,8 +148,8 @@ module _ (m : MetaTree) (ps : List PlacedTable) (seen : Each (λ (p : PlacedTabl
       in
       let P : List (List ℕ) → Type 0 = λ xs. Sub xs (admin.column_names_of k ++ rel_names) in
       subst P (sym joined)
-        (sub_append (map column_name columns_of) (admin.column_names_of k) (map input_name (filter_map (link_input q) links_of)) rel_names
-           columns_some (link_inputs_sub m ps seen q k.rels))
+      (sub_append (map column_name columns_of) (admin.column_names_of k) (map input_name (filter_map (link_input q) links_of)) rel_names
+      columns_some (link_inputs_sub m ps seen q k.rels))
 
   filters_differ : (first : ℕ) → differ (map input_name (connectives first ++ inputs_of Filter columns_of links_of)) ≡ true
   filters_differ first =
@@ -168,8 +168,8 @@ module _ (m : MetaTree) (ps : List PlacedTable) (seen : Each (λ (p : PlacedTabl
       let name = λ (c : ℕ). slice_index_or k.column_names c [] in
       let permitted = each_of (λ c. list_any (λ d. d == c) p.columns) tb.key h in
       let all =
-          each_weaken (λ c. list_any (λ d. d == c) p.columns ≡ true) (λ c. list_any (λ d. d == c) (named_columns k) ≡ true)
-            (λ c g. any_sub (λ d. d == c) p.columns (named_columns k) chosen g) tb.key permitted in
+      each_weaken (λ c. list_any (λ d. d == c) p.columns ≡ true) (λ c. list_any (λ d. d == c) (named_columns k) ≡ true)
+      (λ c g. any_sub (λ d. d == c) p.columns (named_columns k) chosen g) tb.key permitted in
       differ_some (map column_name (shown_columns tb k tb.key)) (map name tb.key) (columns_named tb k tb.key) (images_differ name (named_columns k) all_columns_differ tb.key key_differs all)
 
   table_differs : TableDiffers ps (shown_table k tb p)
@@ -182,7 +182,7 @@ module _ (m : MetaTree) (ps : List PlacedTable) (seen : Each (λ (p : PlacedTabl
   }
     where
       by : (b : Bool) → list_all (λ c. list_any (λ d. d == c) p.columns) tb.key ≡ b
-        → IfSome (cond b (Some (shown_columns tb k tb.key)) None) (λ (key : List ShownColumn). differ (map column_name key) ≡ true)
+          → IfSome (cond b (Some (shown_columns tb k tb.key)) None) (λ (key : List ShownColumn). differ (map column_name key) ≡ true)
       by true e = key_names_differ e
       by false e = tt
 
@@ -201,11 +201,11 @@ unfolding list_args
 link_args l = by l.many l.aggregates
   where
     by : (lots closed : Bool)
-      → Each ArgsDiffer
+        → Each ArgsDiffer
         (cond lots
-           (list_field l.name l.first (field.«List» l.rel)
-              ∷ cond closed (aggregate_field (l.name ++ codes "_aggregate") l.first (field.ListAggregate l.rel) ∷ []) [])
-           (plain_field l.name (part l.first Rows) (field.Object l.rel) ∷ []))
+        (list_field l.name l.first (field.«List» l.rel)
+        ∷ cond closed (aggregate_field (l.name ++ codes "_aggregate") l.first (field.ListAggregate l.rel) ∷ []) [])
+        (plain_field l.name (part l.first Rows) (field.Object l.rel) ∷ []))
     by true true = (refl, (refl, tt))
     by true false = (refl, tt)
     by false closed = (refl, tt)
@@ -224,12 +224,12 @@ module _ (ps : List PlacedTable) (p : PlacedTable) (d : TableDiffers ps p.shown)
   over_names = by (list_any has_greatest p.shown.columns) (list_any has_sum p.shown.columns)
     where
       by : (g s : Bool)
-        → differ
-            (codes "count"
-               ∷ map field_name
-                 (cond g
-                      (plain_field (codes "max") (part p.first Max) field.Max ∷ plain_field (codes "min") (part p.first Min) field.Min ∷ []) []
-                    ++ cond s (plain_field (codes "sum") (part p.first Sum) field.Sum ∷ []) []))
+          → differ
+          (codes "count"
+          ∷ map field_name
+          (cond g
+          (plain_field (codes "max") (part p.first Max) field.Max ∷ plain_field (codes "min") (part p.first Min) field.Min ∷ []) []
+          ++ cond s (plain_field (codes "sum") (part p.first Sum) field.Sum ∷ []) []))
           ≡ true
       by true true = refl
       by true false = refl
@@ -241,9 +241,9 @@ module _ (ps : List PlacedTable) (p : PlacedTable) (d : TableDiffers ps p.shown)
   over_args = (refl, by (list_any has_greatest p.shown.columns) (list_any has_sum p.shown.columns))
     where
       by : (g s : Bool)
-        → Each ArgsDiffer
+          → Each ArgsDiffer
           (cond g (plain_field (codes "max") (part p.first Max) field.Max ∷ plain_field (codes "min") (part p.first Min) field.Min ∷ []) []
-             ++ cond s (plain_field (codes "sum") (part p.first Sum) field.Sum ∷ []) [])
+          ++ cond s (plain_field (codes "sum") (part p.first Sum) field.Sum ∷ []) [])
       by true true = (refl, (refl, (refl, tt)))
       by true false = (refl, (refl, tt))
       by false true = (refl, tt)
@@ -252,11 +252,13 @@ module _ (ps : List PlacedTable) (p : PlacedTable) (d : TableDiffers ps p.shown)
   part_differs : (q : Part) → TypeDiffers (part_type p these q)
   unfolding part_type part_fields part_inputs
   part_differs Rows =
-      record
-        { fields = d.row;
-           args = each_append ArgsDiffer (column_fields Rows p.shown.columns) (flat_map link_fields these)
-             (column_args Rows p.shown.columns) (links_args these);
-           inputs = refl; values = refl }
+      record {
+        fields = d.row;
+        args = each_append ArgsDiffer (column_fields Rows p.shown.columns) (flat_map link_fields these)
+            (column_args Rows p.shown.columns) (links_args these);
+        inputs = refl;
+        values = refl;
+      }
   part_differs Filter = record { fields = columns_field_names Filter; args = column_args Filter p.shown.columns; inputs = d.filters p.first; values = refl }
   part_differs Sort = record { fields = columns_field_names Sort; args = column_args Sort p.shown.columns; inputs = d.sorts; values = refl }
   part_differs Columns = record { fields = columns_field_names Columns; args = column_args Columns p.shown.columns; inputs = refl; values = d.columns }
@@ -405,9 +407,9 @@ module _ (tables : List Table) (m : MetaTree) (role : Role) (catalog : is_catalo
       valid : (i : ℕ) (t : Table) → slice_get tables i ≡ Some t → is_table tables t ≡ true
       valid i t e =
           each_get (λ (t : Table). is_table tables t ≡ true) tables i t
-            (each_of (is_table tables) tables
-               (and_parts (nat_le (length tables) 500 && all_differ (λ t u. bytes_eq (full_name t) (full_name u)) tables) (list_all (is_table tables) tables) catalog).1)
-            e
+          (each_of (is_table tables) tables
+          (and_parts (nat_le (length tables) 500 && all_differ (λ t u. bytes_eq (full_name t) (full_name u)) tables) (list_all (is_table tables) tables) catalog).1)
+          e
 
       one : (k : TrackedTree) → First k → OwnDiffer k ≡ true → IfSome (shown_entry tables m role k) (TableDiffers (placed shown))
       one k first own = by (shown_entry tables m role k) refl

@@ -88,13 +88,13 @@ module _ (types : List TypeTree) (a : Access) (fixed_ones : (f : Fixed) → Stan
 
   -- the arguments of a list of the rows of table u, whose types begin at a place
   pub list_args_fit : (target : ArgOrigin → Target) (first u : ℕ) → ((x : ArgOrigin) → target x ≡ list_target (Some u) x)
-    → ((p : Part) → nat_lt (part_offset p) 4 ≡ true → PartStands types first u p) → Each (ArgFits types target) (list_args first)
+      → ((p : Part) → nat_lt (part_offset p) 4 ≡ true → PartStands types first u p) → Each (ArgFits types target) (list_args first)
   unfolding list_args
   list_args_fit target first u same stands = (
     record {
       reaches =
           at_target types (items (part first Columns)) (target arg_origin.DistinctOn) (to (type.Columns u)) (same arg_origin.DistinctOn)
-            (reaches_it types (items (part first Columns)) (type.Columns u) kind.Enum (stands Columns refl));
+          (reaches_it types (items (part first Columns)) (type.Columns u) kind.Enum (stands Columns refl));
       input = is_of types is_input (items (part first Columns)) (type.Columns u) kind.Enum (stands Columns refl) refl;
     },
     (
@@ -111,14 +111,14 @@ module _ (types : List TypeTree) (a : Access) (fixed_ones : (f : Fixed) → Stan
           record {
             reaches =
                 at_target types (items (part first Sort)) (target arg_origin.OrderBy) (to (type.Sort u)) (same arg_origin.OrderBy)
-                  (reaches_it types (items (part first Sort)) (type.Sort u) kind.Input (stands Sort refl));
+                (reaches_it types (items (part first Sort)) (type.Sort u) kind.Input (stands Sort refl));
             input = is_of types is_input (items (part first Sort)) (type.Sort u) kind.Input (stands Sort refl) refl;
           },
           (
             record {
               reaches =
                   at_target types (part first Filter) (target arg_origin.Where) (to (type.Filter u)) (same arg_origin.Where)
-                    (reaches_it types (part first Filter) (type.Filter u) kind.Input (stands Filter refl));
+                  (reaches_it types (part first Filter) (type.Filter u) kind.Input (stands Filter refl));
               input = is_of types is_input (part first Filter) (type.Filter u) kind.Input (stands Filter refl) refl;
             },
             tt,
@@ -132,12 +132,12 @@ module _ (types : List TypeTree) (a : Access) (fixed_ones : (f : Fixed) → Stan
 
   -- a column's field in a part
   column_fits : (owner : TypeOrigin) (t : ℕ) (p : Part)
-    → ((c : ℕ) → field_target a owner (field.Column c) ≡ where_holds (a.column t c) plain) → (c : ShownColumn) → a.column t c.col ≡ true
-    → IfSome (column_field p c) (FieldFits types a owner)
+      → ((c : ℕ) → field_target a owner (field.Column c) ≡ where_holds (a.column t c) plain) → (c : ShownColumn) → a.column t c.col ≡ true
+      → IfSome (column_field p c) (FieldFits types a owner)
   column_fits owner t p target c allowed = by p
     where
       fits : (r : TypeRefTree) (f : Fixed) → base r ≡ fixed_place f → is_output (fixed_kind f) ≡ true
-        → FieldFits types a owner (record { name = c.name; args = []; ty = r; origin = field.Column c.col })
+          → FieldFits types a owner (record { name = c.name; args = []; ty = r; origin = field.Column c.col })
       fits r f e is_so = record {
         reaches = at_target types r (field_target a owner (field.Column c.col)) (where_holds (a.column t c.col) plain) (target c.col) (where_is types r (a.column t c.col) plain allowed tt);
         output = fixed_output r f e is_so;
@@ -145,10 +145,10 @@ module _ (types : List TypeTree) (a : Access) (fixed_ones : (f : Fixed) → Stan
       }
 
       held : (b : Bool) (r : TypeRefTree) (f : Fixed) → base r ≡ fixed_place f → is_output (fixed_kind f) ≡ true
-        → IfSome
+          → IfSome
           (option_map
-             (λ (r : TypeRefTree). let x : FieldTree = record { name = c.name; args = []; ty = r; origin = field.Column c.col } in x)
-             (cond b (Some r) None))
+          (λ (r : TypeRefTree). let x : FieldTree = record { name = c.name; args = []; ty = r; origin = field.Column c.col } in x)
+          (cond b (Some r) None))
           (FieldFits types a owner)
       held true r f e is_so = fits r f e is_so
       held false r f e is_so = tt
@@ -169,8 +169,8 @@ module _ (types : List TypeTree) (a : Access) (fixed_ones : (f : Fixed) → Stan
       by AggregateFields = tt
 
   pub columns_fit : (owner : TypeOrigin) (t : ℕ) (p : Part)
-    → ((c : ℕ) → field_target a owner (field.Column c) ≡ where_holds (a.column t c) plain) → (cs : List ShownColumn) → Permitted a t cs
-    → Each (FieldFits types a owner) (column_fields p cs)
+      → ((c : ℕ) → field_target a owner (field.Column c) ≡ where_holds (a.column t c) plain) → (cs : List ShownColumn) → Permitted a t cs
+      → Each (FieldFits types a owner) (column_fields p cs)
   columns_fit owner t p target cs allowed =
       each_filter_map (FieldFits types a owner) (λ (c : ShownColumn). a.column t c.col ≡ true) (column_field p) (column_fits owner t p target) cs allowed
 
@@ -193,8 +193,8 @@ module _ (types : List TypeTree) (a : Access) (fixed_ones : (f : Fixed) → Stan
     object_fits few = record {
       reaches =
           at_target types (part l.first Rows) (behind_one (a.rel t l.rel) type.Rows) (to (type.Rows fits.target.remote))
-            (one_is few type.Rows)
-            (reaches_it types (part l.first Rows) (type.Rows fits.target.remote) kind.Object (fits.stands Rows refl));
+          (one_is few type.Rows)
+          (reaches_it types (part l.first Rows) (type.Rows fits.target.remote) kind.Object (fits.stands Rows refl));
       output = is_of types is_output (part l.first Rows) (type.Rows fits.target.remote) kind.Object (fits.stands Rows refl) refl;
       args = tt;
     }
@@ -203,8 +203,8 @@ module _ (types : List TypeTree) (a : Access) (fixed_ones : (f : Fixed) → Stan
     list_fits lots = record {
       reaches =
           at_target types (all_items (part l.first Rows)) (behind_many (a.rel t l.rel) type.Rows) (to (type.Rows fits.target.remote))
-            (many_is lots type.Rows)
-            (reaches_it types (all_items (part l.first Rows)) (type.Rows fits.target.remote) kind.Object (fits.stands Rows refl));
+          (many_is lots type.Rows)
+          (reaches_it types (all_items (part l.first Rows)) (type.Rows fits.target.remote) kind.Object (fits.stands Rows refl));
       output = is_of types is_output (all_items (part l.first Rows)) (type.Rows fits.target.remote) kind.Object (fits.stands Rows refl) refl;
       args = list_args_fit (list_target (remote_of (a.rel t l.rel))) l.first fits.target.remote listed fits.stands;
     }
@@ -218,7 +218,7 @@ module _ (types : List TypeTree) (a : Access) (fixed_ones : (f : Fixed) → Stan
         record {
           reaches =
               at_target types r (aggregates_behind a (a.rel t l.rel)) (to (type.Aggregate fits.target.remote)) (aggregate_is lots allowed)
-                (reaches_it types r (type.Aggregate fits.target.remote) kind.Object (fits.aggregates allowed).1);
+              (reaches_it types r (type.Aggregate fits.target.remote) kind.Object (fits.aggregates allowed).1);
           output = is_of types is_output r (type.Aggregate fits.target.remote) kind.Object (fits.aggregates allowed).1 refl;
           args = list_args_fit (list_target (remote_of (a.rel t l.rel))) l.first fits.target.remote listed fits.stands;
         }
@@ -227,11 +227,11 @@ module _ (types : List TypeTree) (a : Access) (fixed_ones : (f : Fixed) → Stan
     link_field_fits = by l.many l.aggregates refl refl
       where
         by : (m g : Bool) → l.many ≡ m → l.aggregates ≡ g
-          → Each (FieldFits types a (type.Rows t))
+            → Each (FieldFits types a (type.Rows t))
             (cond m
-               (list_field l.name l.first (field.«List» l.rel)
-                  ∷ cond g (aggregate_field (l.name ++ codes "_aggregate") l.first (field.ListAggregate l.rel) ∷ []) [])
-               (record { name = l.name; args = []; ty = part l.first Rows; origin = field.Object l.rel } ∷ []))
+            (list_field l.name l.first (field.«List» l.rel)
+            ∷ cond g (aggregate_field (l.name ++ codes "_aggregate") l.first (field.ListAggregate l.rel) ∷ []) [])
+            (record { name = l.name; args = []; ty = part l.first Rows; origin = field.Object l.rel } ∷ []))
         by true true lots allowed = (list_fits lots, (aggregate_fits lots allowed, tt))
         by true false lots closed = (list_fits lots, tt)
         by false g few any = (object_fits few, tt)
@@ -240,8 +240,8 @@ module _ (types : List TypeTree) (a : Access) (fixed_ones : (f : Fixed) → Stan
     filter_input_fits = record {
       reaches =
           at_target types (part l.first Filter) (behind (a.rel t l.rel) type.Filter) (to (type.Filter fits.target.remote))
-            (any_is type.Filter)
-            (reaches_it types (part l.first Filter) (type.Filter fits.target.remote) kind.Input (fits.stands Filter refl));
+          (any_is type.Filter)
+          (reaches_it types (part l.first Filter) (type.Filter fits.target.remote) kind.Input (fits.stands Filter refl));
       input = is_of types is_input (part l.first Filter) (type.Filter fits.target.remote) kind.Input (fits.stands Filter refl) refl;
     }
 
@@ -253,8 +253,8 @@ module _ (types : List TypeTree) (a : Access) (fixed_ones : (f : Fixed) → Stan
         by false few = record {
           reaches =
               at_target types (part l.first Sort) (behind_one (a.rel t l.rel) type.Sort) (to (type.Sort fits.target.remote))
-                (one_is few type.Sort)
-                (reaches_it types (part l.first Sort) (type.Sort fits.target.remote) kind.Input (fits.stands Sort refl));
+              (one_is few type.Sort)
+              (reaches_it types (part l.first Sort) (type.Sort fits.target.remote) kind.Input (fits.stands Sort refl));
           input = is_of types is_input (part l.first Sort) (type.Sort fits.target.remote) kind.Input (fits.stands Sort refl) refl;
         }
 
@@ -273,7 +273,7 @@ module _ (types : List TypeTree) (a : Access) (fixed_ones : (f : Fixed) → Stan
   sort_column_fits t c allowed = record {
     reaches =
         where_is types (fixed fixed_type.OrderBy) (a.column t c.col) (to type.Directions) allowed
-          (reaches_it types (fixed fixed_type.OrderBy) type.Directions kind.Enum (fixed_ones fixed_type.OrderBy));
+        (reaches_it types (fixed fixed_type.OrderBy) type.Directions kind.Enum (fixed_ones fixed_type.OrderBy));
     input = fixed_input (fixed fixed_type.OrderBy) fixed_type.OrderBy refl refl;
   }
 
@@ -291,14 +291,18 @@ module _ (types : List TypeTree) (a : Access) (fixed_ones : (f : Fixed) → Stan
 
   pub connectives_fit : (t first : ℕ) → PartStands types first t Filter → Each (ArgFits types (input_target a (type.Filter t))) (connectives first)
   connectives_fit t first stands = (
-    record
-      { reaches = reaches_it types (items (part first Filter)) (type.Filter t) kind.Input stands;
-         input = is_of types is_input (items (part first Filter)) (type.Filter t) kind.Input stands refl },
+    record {
+      reaches = reaches_it types (items (part first Filter)) (type.Filter t) kind.Input stands;
+      input = is_of types is_input (items (part first Filter)) (type.Filter t) kind.Input stands refl;
+    },
     (
       record { reaches = reaches_it types (part first Filter) (type.Filter t) kind.Input stands; input = is_of types is_input (part first Filter) (type.Filter t) kind.Input stands refl },
-      (record
-           { reaches = reaches_it types (items (part first Filter)) (type.Filter t) kind.Input stands;
-              input = is_of types is_input (items (part first Filter)) (type.Filter t) kind.Input stands refl },
-         tt),
+      (
+        record {
+          reaches = reaches_it types (items (part first Filter)) (type.Filter t) kind.Input stands;
+          input = is_of types is_input (items (part first Filter)) (type.Filter t) kind.Input stands refl;
+        },
+        tt,
+      ),
     ),
   )

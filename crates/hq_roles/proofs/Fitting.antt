@@ -75,7 +75,7 @@ has_aggregates t h =
     by t.aggregates h
 
 module _ (types : List TypeTree) (a : Access) (fixed_ones : (f : Fixed) → StandsAt types (fixed_place f) (fixed_origin f) (fixed_kind f))
-  (p : PlacedTable) (s : Sound types a p) (ls : List Link) (linked : Each (LinkFits types a p.shown.table) ls) where
+    (p : PlacedTable) (s : Sound types a p) (ls : List Link) (linked : Each (LinkFits types a p.shown.table) ls) where
   -- a part in which no column has a field
   no_columns : (owner : TypeOrigin) (q : Part) → ((c : ShownColumn) → column_field q c ≡ None) → Each (FieldFits types a owner) (column_fields q p.shown.columns)
   no_columns owner q none =
@@ -161,13 +161,13 @@ module _ (types : List TypeTree) (a : Access) (fixed_ones : (f : Fixed) → Stan
 
   -- a field that leads to a part
   to_part : (q : Part) (o : FieldOrigin) (name : List ℕ)
-    → field_target a (type.AggregateFields p.shown.table) o ≡ to (part_origin q p.shown.table) → is_output (part_kind q) ≡ true
-    → PartStands types p.first p.shown.table q
-    → FieldFits types a (type.AggregateFields p.shown.table) (record { name = name; args = []; ty = part p.first q; origin = o })
+      → field_target a (type.AggregateFields p.shown.table) o ≡ to (part_origin q p.shown.table) → is_output (part_kind q) ≡ true
+      → PartStands types p.first p.shown.table q
+      → FieldFits types a (type.AggregateFields p.shown.table) (record { name = name; args = []; ty = part p.first q; origin = o })
   to_part q o name target is_so stands = record {
     reaches =
         at_target types (part p.first q) (field_target a (type.AggregateFields p.shown.table) o) (to (part_origin q p.shown.table)) target
-          (reaches_it types (part p.first q) (part_origin q p.shown.table) (part_kind q) stands);
+        (reaches_it types (part p.first q) (part_origin q p.shown.table) (part_kind q) stands);
     output = is_of types is_output (part p.first q) (part_origin q p.shown.table) (part_kind q) stands is_so;
     args = tt;
   }
@@ -176,7 +176,7 @@ module _ (types : List TypeTree) (a : Access) (fixed_ones : (f : Fixed) → Stan
   greatest_fit allowed = by (list_any has_greatest p.shown.columns) refl
     where
       by : (b : Bool) → list_any has_greatest p.shown.columns ≡ b
-        → Each (FieldFits types a (type.AggregateFields p.shown.table))
+          → Each (FieldFits types a (type.AggregateFields p.shown.table))
           (cond b (plain_field (codes "max") (part p.first Max) field.Max ∷ plain_field (codes "min") (part p.first Min) field.Min ∷ []) [])
       by true e = (
         to_part Max field.Max (codes "max") refl refl (s.stands Max (has_eight p.shown 6 allowed e refl refl)),
@@ -231,7 +231,7 @@ module _ (types : List TypeTree) (a : Access) (fixed_ones : (f : Fixed) → Stan
   types_fit = each_map (TypeFits types a) (λ (q : Part). nat_lt (part_offset q) (part_count p.shown) ≡ true) (part_type p ls) part_fits (take (part_count p.shown) all_parts) (counted p.shown)
 
 table_fits : (types : List TypeTree) (a : Access) → ((f : Fixed) → StandsAt types (fixed_place f) (fixed_origin f) (fixed_kind f))
-  → (ps : List PlacedTable) → Each (Sound types a) ps → (p : PlacedTable) → Sound types a p → Each (TypeFits types a) (table_types ps p)
+    → (ps : List PlacedTable) → Each (Sound types a) ps → (p : PlacedTable) → Sound types a p → Each (TypeFits types a) (table_types ps p)
 table_fits types a fixed_ones ps sound p s =
     types_fit types a fixed_ones p s (links_from ps 0 p.shown.rels) (links_fit types a ps sound p.shown.table p.shown.rels s.permits.rels)
 
@@ -247,7 +247,7 @@ over_fits a ts permits =
     (each_flat_map (TypeFits types a) (Sound types a) (table_types ps) (table_fits types a fixed_ones ps sound) ps sound)
 
 pub schema_fits : (tables : List Table) (m : MetaTree) (role : Role)
-  → all_differ (λ (j k : TrackedTree). j.table == k.table) m.tracked ≡ true
-  → Each (TypeFits (role_schema tables m role).types (access_of m role)) (role_schema tables m role).types
+    → all_differ (λ (j k : TrackedTree). j.table == k.table) m.tracked ≡ true
+    → Each (TypeFits (role_schema tables m role).types (access_of m role)) (role_schema tables m role).types
 unfolding role_schema
 schema_fits tables m role differ = over_fits (access_of m role) (shown_tables tables m role) (tables_permit tables m role differ)

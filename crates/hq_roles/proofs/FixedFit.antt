@@ -168,7 +168,7 @@ module _ (types : List TypeTree) (a : Access) (fixed_ones : (f : Fixed) → Stan
     list_root = record {
       reaches =
           where_is types (all_items (part p.first Rows)) (a.seen p.shown.table) (to (type.Rows p.shown.table)) s.permits.seen
-            (reaches_it types (all_items (part p.first Rows)) (type.Rows p.shown.table) kind.Object rows_stand);
+          (reaches_it types (all_items (part p.first Rows)) (type.Rows p.shown.table) kind.Object rows_stand);
       output = is_of types is_output (all_items (part p.first Rows)) (type.Rows p.shown.table) kind.Object rows_stand refl;
       args = list_args_fit types a fixed_ones (list_target (Some p.shown.table)) p.first p.shown.table (λ x. refl) (λ q early. s.stands q (has_four p.shown q early));
     }
@@ -186,7 +186,7 @@ module _ (types : List TypeTree) (a : Access) (fixed_ones : (f : Fixed) → Stan
               record {
                 reaches =
                     where_is types r (a.aggregates p.shown.table) (to (type.Aggregate p.shown.table)) (s.permits.aggregates allowed)
-                      (reaches_it types r (type.Aggregate p.shown.table) kind.Object stands);
+                    (reaches_it types r (type.Aggregate p.shown.table) kind.Object stands);
                 output = is_of types is_output r (type.Aggregate p.shown.table) kind.Object stands refl;
                 args = list_args_fit types a fixed_ones (list_target (Some p.shown.table)) p.first p.shown.table (λ x. refl) (λ q early. s.stands q (has_four p.shown q early));
               },
@@ -202,7 +202,7 @@ module _ (types : List TypeTree) (a : Access) (fixed_ones : (f : Fixed) → Stan
           record {
             reaches =
                 where_is types (part p.first Rows) (a.seen p.shown.table) (to (type.Rows p.shown.table)) s.permits.seen
-                  (reaches_it types (part p.first Rows) (type.Rows p.shown.table) kind.Object rows_stand);
+                (reaches_it types (part p.first Rows) (type.Rows p.shown.table) kind.Object rows_stand);
             output = is_of types is_output (part p.first Rows) (type.Rows p.shown.table) kind.Object rows_stand refl;
             args = each_map (ArgFits types (key_target a p.shown.table)) (λ (c : ShownColumn). a.column p.shown.table c.col ≡ true) key_arg key_arg_fits key h;
           },

@@ -52,7 +52,7 @@ granted tables m role k first t e = by (slice_get tables k.table) (permission_in
     given = ap (λ (o : Option TrackedTree). option_and_then (λ (u : Table). option_map (shown_table k u) (option_and_then (permission_in role) o)) (slice_get tables k.table)) (sym first) ∙ e
 
     by : (u : Option Table) (p : Option Permission) → slice_get tables k.table ≡ u → permission_in role k ≡ p
-      → option_and_then (λ (u : Table). option_map (shown_table k u) p) u ≡ Some t → Granted tables k t
+        → option_and_then (λ (u : Table). option_map (shown_table k u) p) u ≡ Some t → Granted tables k t
     by None p here allowed e = cc
     by (Some u) None here allowed e = cc
     by (Some u) (Some p) here allowed e =

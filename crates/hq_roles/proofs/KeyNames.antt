@@ -25,7 +25,7 @@ module _ (f : ℕ → List ℕ) where
 
   -- two of the numbers have unlike names
   apart : (named : List ℕ) → all_differ bytes_eq (map f named) ≡ true → (c d : ℕ) → list_any (λ x. x == c) named ≡ true
-    → list_any (λ x. x == d) named ≡ true → (c == d) ≡ false → bytes_eq (f c) (f d) ≡ false
+      → list_any (λ x. x == d) named ≡ true → (c == d) ≡ false → bytes_eq (f c) (f d) ≡ false
   apart [] differ c d hc hd ne = absurd (false≢true hc)
   apart (n ∷ ns) differ c d hc hd ne = by (n == c) (n == d) refl refl hc hd (apart ns parts.1 c d)
     where
@@ -36,8 +36,8 @@ module _ (f : ℕ → List ℕ) where
       none = not-true (list_any (bytes_eq (f n)) (map f ns)) parts.0
 
       by : (b e : Bool) → (n == c) ≡ b → (n == d) ≡ e → (b || list_any (λ x. x == c) ns) ≡ true → (e || list_any (λ x. x == d) ns) ≡ true
-        → (list_any (λ x. x == c) ns ≡ true → list_any (λ x. x == d) ns ≡ true → (c == d) ≡ false → bytes_eq (f c) (f d) ≡ false)
-        → bytes_eq (f c) (f d) ≡ false
+          → (list_any (λ x. x == c) ns ≡ true → list_any (λ x. x == d) ns ≡ true → (c == d) ≡ false → bytes_eq (f c) (f d) ≡ false)
+          → bytes_eq (f c) (f d) ≡ false
       by true true p q hc hd later =
           let same : c ≡ d = sym (eqb-true n c p) ∙ eqb-true n d q in
           absurd (false≢true (sym ne ∙ eq-eqb c d same))
@@ -46,7 +46,7 @@ module _ (f : ℕ → List ℕ) where
       by false false p q hc hd later = later hc hd ne
 
   none_like : (named : List ℕ) → all_differ bytes_eq (map f named) ≡ true → (c : ℕ) (ks : List ℕ) → list_any (λ x. x == c) named ≡ true
-    → Each (λ d. list_any (λ x. x == d) named ≡ true) ks → list_any (λ d. c == d) ks ≡ false → list_any (bytes_eq (f c)) (map f ks) ≡ false
+      → Each (λ d. list_any (λ x. x == d) named ≡ true) ks → list_any (λ d. c == d) ks ≡ false → list_any (bytes_eq (f c)) (map f ks) ≡ false
   none_like named differ c [] hc hs ne = refl
   none_like named differ c (k ∷ ks) hc hs ne =
       let parts = or_parts (c == k) (list_any (λ d. c == d) ks) ne in
@@ -54,7 +54,7 @@ module _ (f : ℕ → List ℕ) where
 
   -- numbers that differ have names that differ, where those of a wider list do
   pub images_differ : (named : List ℕ) → all_differ bytes_eq (map f named) ≡ true → (ks : List ℕ) → all_differ (λ c d. c == d) ks ≡ true
-    → Each (λ d. list_any (λ x. x == d) named ≡ true) ks → all_differ bytes_eq (map f ks) ≡ true
+      → Each (λ d. list_any (λ x. x == d) named ≡ true) ks → all_differ bytes_eq (map f ks) ≡ true
   images_differ named differ [] ne hs = refl
   images_differ named differ (k ∷ ks) ne hs =
       let parts = and_parts (not (list_any (λ d. k == d) ks)) (all_differ (λ c d. c == d) ks) ne in

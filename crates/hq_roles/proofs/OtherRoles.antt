@@ -54,9 +54,9 @@ not_kept kept name (n ∷ ns) each none =
     let parts = both (is_some (kept_for kept n)) (keeps_each kept ns) each in
     let apart : bytes_eq name n ≡ false =
     never (bytes_eq name n)
-      (λ h. let missing : is_some (kept_for kept n) ≡ false = ap (λ m. is_some (kept_for kept m)) (sym (same_text name n h))
-         ∙ ap is_some none in not_true (is_some (kept_for kept n)) missing parts.0)
-      in
+    (λ h. let missing : is_some (kept_for kept n) ≡ false = ap (λ m. is_some (kept_for kept m)) (sym (same_text name n h))
+    ∙ ap is_some none in not_true (is_some (kept_for kept n)) missing parts.0)
+    in
     ap (λ b. b || is_among name ns) apart ∙ not_kept kept name ns parts.1 none
 
 among_more : (name : List ℕ) (earlier : List (List ℕ)) (n : List ℕ) → is_among name earlier ≡ false → bytes_eq name n ≡ false → is_among name (earlier ++ n ∷ []) ≡ false
@@ -164,5 +164,5 @@ admin_has_none tables m fit = entries_have_no_admin (schema_of tables m) m m.tra
 
 -- each role that is not among those with a permission has the schema of a role of the name `admin`
 pub other_role : (tables : List Table) (m : MetaTree) (name : List ℕ) → fits tables m ≡ true → is_among name (roles_in m) ≡ false
-  → role_schema tables m (Named name) ≡ role_schema tables m (Named (codes "admin"))
+    → role_schema tables m (Named name) ≡ role_schema tables m (Named (codes "admin"))
 other_role tables m name fit h = alike tables m name (codes "admin") (others_have_none m name h) (admin_has_none tables m fit)

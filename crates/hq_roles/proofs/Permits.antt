@@ -73,7 +73,7 @@ module _ (test : ℕ → Bool) where
 
 -- where the role has this permission on an entry, the first one of its table
 table_permits : (m : MetaTree) (role : Role) (k : TrackedTree) (t : Table) (p : Permission) → permission role m k.table ≡ Some p
-  → tracked_table m k.table ≡ Some k → Permits (access_of m role) (shown_table k t p)
+    → tracked_table m k.table ≡ Some k → Permits (access_of m role) (shown_table k t p)
 table_permits m role k t p granted first =
     let a = access_of m role in
     let column : (c : ℕ) → a.column k.table c ≡ list_any (λ d. d == c) p.columns =
@@ -92,8 +92,8 @@ table_permits m role k t p granted first =
     }
   where
     key_passes : (b : Bool) → list_all (λ c. list_any (λ d. d == c) p.columns) t.key ≡ b
-      → (list_all (λ c. list_any (λ d. d == c) p.columns) t.key ≡ true → Permitted (access_of m role) k.table (shown_columns t k t.key))
-      → IfSome (cond b (Some (shown_columns t k t.key)) None) (Permitted (access_of m role) k.table)
+        → (list_all (λ c. list_any (λ d. d == c) p.columns) t.key ≡ true → Permitted (access_of m role) k.table (shown_columns t k t.key))
+        → IfSome (cond b (Some (shown_columns t k t.key)) None) (Permitted (access_of m role) k.table)
     key_passes true e step = step e
     key_passes false e step = tt
 
@@ -117,7 +117,7 @@ abbrev IsNew : List TrackedTree → TrackedTree → Type 0
 IsNew front k = list_any (λ (j : TrackedTree). j.table == k.table) front ≡ false
 
 new_more : (front : List TrackedTree) (k : TrackedTree) (ks : List TrackedTree) → Each (IsNew front) ks
-  → list_any (λ (x : TrackedTree). k.table == x.table) ks ≡ false → Each (IsNew (front ++ k ∷ [])) ks
+    → list_any (λ (x : TrackedTree). k.table == x.table) ks ≡ false → Each (IsNew (front ++ k ∷ [])) ks
 new_more front k [] h g = tt
 new_more front k (x ∷ ks) h g =
     let p : TrackedTree → Bool = λ (j : TrackedTree). j.table == x.table in
@@ -131,7 +131,7 @@ not_true false h = refl
 
 -- the first entry of each table is that entry, where no table is tracked twice
 firsts_are : (front ks : List TrackedTree) → all_differ (λ (j k : TrackedTree). j.table == k.table) ks ≡ true → Each (IsNew front) ks
-  → Each (λ (k : TrackedTree). find (λ (j : TrackedTree). j.table == k.table) (front ++ ks) ≡ Some k) ks
+    → Each (λ (k : TrackedTree). find (λ (j : TrackedTree). j.table == k.table) (front ++ ks) ≡ Some k) ks
 firsts_are front [] differ new = tt
 firsts_are front (k ∷ ks) differ new =
     let p : TrackedTree → Bool = λ (j : TrackedTree). j.table == k.table in
@@ -157,7 +157,7 @@ entry_permits tables m role k first = by (slice_get tables k.table) (permission 
 
 -- what a role's tables show is permitted
 pub tables_permit : (tables : List Table) (m : MetaTree) (role : Role)
-  → all_differ (λ (j k : TrackedTree). j.table == k.table) m.tracked ≡ true → Each (Permits (access_of m role)) (shown_tables tables m role)
+    → all_differ (λ (j k : TrackedTree). j.table == k.table) m.tracked ≡ true → Each (Permits (access_of m role)) (shown_tables tables m role)
 tables_permit tables m role differ =
     each_filter_map (Permits (access_of m role)) (λ (k : TrackedTree). tracked_table m k.table ≡ Some k) (shown_entry tables m role) (entry_permits tables m role) m.tracked
     (firsts_are [] m.tracked differ (none_new m.tracked))

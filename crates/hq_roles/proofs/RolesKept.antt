@@ -44,14 +44,14 @@ module _ {S : Type 0} (old new : HashMap (List ℕ) Schema S) (name : List ℕ) 
       go (bytes_eq name q) refl (put q)
 
   pub taken_and_one : (names : List (List ℕ)) (i : ℕ) → i < length names → name ≡ get_or names i name → keeps_each old (take i names) ≡ true
-    → kept_for new name ≡ Some schema → keeps_each new (take (i + 1) names) ≡ true
+      → kept_for new name ≡ Some schema → keeps_each new (take (i + 1) names) ≡ true
   taken_and_one names i within is h here =
       let split : take (i + 1) names ≡ take i names ++ name ∷ [] = rw add-one (take-suc names i name within ∙ ap (λ w. take i names ++ w ∷ []) (sym is)) in
       subst (λ ns. keeps_each new ns ≡ true) (sym split) (each_and_one (take i names) h here)
 
 -- what is found by a name, where the schemas of all roles with a permission are kept, and one for the others
 named_role : {S : Type 0} (tables : List Table) (m : MetaTree) (kept : HashMap (List ℕ) Schema S) (other : Schema) (name : List ℕ)
-  → fits tables m ≡ true → keeps_each kept (roles_in m) ≡ true → KeepsRoles tables m kept
+    → fits tables m ≡ true → keeps_each kept (roles_in m) ≡ true → KeepsRoles tables m kept
     → schema_view other ≡ role_schema tables m (Named (codes "admin")) → schema_view (unwrap_or (kept_for kept name) other) ≡ role_schema tables m (Named name)
 named_role tables m kept other name fit each right rest =
     let go : (o : Option Schema) → kept_for kept name ≡ o → schema_view (unwrap_or o other) ≡ role_schema tables m (Named name) =
@@ -60,7 +60,7 @@ named_role tables m kept other name fit each right rest =
 
 -- the schemas that are kept are those of the roles
 pub are_role_schemas : (tables : List Table) (m : MetaTree) (kept : RoleSchemas) → fits tables m ≡ true
-  → schema_view kept.admin ≡ role_schema tables m Admin → keeps_each kept.named (roles_in m) ≡ true → KeepsRoles tables m kept.named
+    → schema_view kept.admin ≡ role_schema tables m Admin → keeps_each kept.named (roles_in m) ≡ true → KeepsRoles tables m kept.named
     → schema_view kept.other ≡ role_schema tables m (Named (codes "admin")) → AreRoleSchemas tables m kept
 are_role_schemas tables m kept fit admin each right other Admin = admin
 are_role_schemas tables m kept fit admin each right other (Named name) = named_role tables m kept.named kept.other name fit each right other

@@ -104,7 +104,7 @@ part_at Sum = refl
 
 -- a type among those of its table
 in_block : (p : PlacedTable) (ls : List Link) (part : Part) → part_offset part < part_count p.shown
-  → option_map what (slice_get (types_with p ls) (part_offset part)) ≡ Some (part_origin part p.shown.table, part_kind part)
+    → option_map what (slice_get (types_with p ls) (part_offset part)) ≡ Some (part_origin part p.shown.table, part_kind part)
 unfolding part_type
 in_block p ls part lt =
     ap (option_map what)
@@ -112,7 +112,7 @@ in_block p ls part lt =
     ∙ ap (option_map (part_type p ls)) (get_take (part_count p.shown) (part_offset part) all_parts lt ∙ part_at part))
 
 pub stand_from : (ps : List PlacedTable) (front : List TypeTree) (first : ℕ) (ts : List ShownTable) → length front ≡ first
-  → Each (Stands (front ++ flat_map (table_types ps) (placed_from first ts))) (placed_from first ts)
+    → Each (Stands (front ++ flat_map (table_types ps) (placed_from first ts))) (placed_from first ts)
 stand_from ps front first [] long = tt
 stand_from ps front first (t ∷ ts) long =
     let p : PlacedTable = record { shown = t; first = first } in

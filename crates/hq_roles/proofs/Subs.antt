@@ -44,7 +44,7 @@ module _ {A : Type 0} where
       by either (λ g. sub_trans xs r.0 zs g r.2) (λ rest g. sub_trans rest r.0 zs g r.2)
     where
       by : Sub xs r.0 ⊎ ((rest : List A) × (xs ≡ z ∷ rest) × Sub rest r.0) → (Sub xs r.0 → Sub xs zs)
-        → ((rest : List A) → Sub rest r.0 → Sub rest zs) → Sub xs zs ⊎ ((rest : List A) × (xs ≡ z ∷ rest) × Sub rest zs)
+          → ((rest : List A) → Sub rest r.0 → Sub rest zs) → Sub xs zs ⊎ ((rest : List A) × (xs ≡ z ∷ rest) × Sub rest zs)
       by (inl g) one more = inl (one g)
       by (inr q) one more = inr (q.0, q.1, more q.0 q.2)
 
@@ -86,8 +86,8 @@ sub_map f xs (y ∷ ys) (inr r) = inr (map f r.0, ap (map f) r.1, sub_map f r.0 
 
 -- what each item gives, where some items give nothing
 pub sub_given : {A B C : Type 0} (Q : A → Type 0) (h : A → Option C) (f : C → List B) (g : A → List B)
-  → ((x : A) → Q x → (c : C) → h x ≡ Some c → Sub (f c) (g x)) → (xs : List A) → Each Q xs
-  → Sub (flat_map f (filter_map h xs)) (flat_map g xs)
+    → ((x : A) → Q x → (c : C) → h x ≡ Some c → Sub (f c) (g x)) → (xs : List A) → Each Q xs
+    → Sub (flat_map f (filter_map h xs)) (flat_map g xs)
 sub_given Q h f g step [] q = refl
 sub_given {A} {B} {C} Q h f g step (x ∷ xs) q = by (h x) refl (sub_given Q h f g step xs q.1)
   where

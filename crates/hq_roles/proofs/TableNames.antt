@@ -59,11 +59,16 @@ module _ (name : List ℕ) where
 
   four_sub : (xs ys : List (List ℕ)) → Sub xs ys → Sub ((name ++ codes "") ∷ four xs) (name ∷ four ys)
   four_sub xs ys h =
-      inr
-        (four xs, ap (λ (z : List ℕ). z ∷ four xs) (append-nil name),
-           inr
-             ((name ++ codes "_order_by") ∷ (name ++ codes "_select_column")
-                ∷ xs, refl, inr ((name ++ codes "_select_column") ∷ xs, refl, inr (xs, refl, h))))
+      inr (
+        four xs,
+        ap (λ (z : List ℕ). z ∷ four xs) (append-nil name),
+        inr (
+          (name ++ codes "_order_by") ∷ (name ++ codes "_select_column")
+              ∷ xs,
+          refl,
+          inr ((name ++ codes "_select_column") ∷ xs, refl, inr (xs, refl, h)),
+        ),
+      )
 
   two_sub : (o w : Bool) → Sub (aggregates_by false false) (aggregates_by o w)
   two_sub true true = sub_front (aggregates_by false false) ((name ++ codes "_max_fields") ∷ (name ++ codes "_min_fields") ∷ (name ++ codes "_sum_fields") ∷ [])
@@ -76,7 +81,7 @@ module _ (name : List ℕ) where
   ordered_sub false = sub_same (aggregates_by true false)
 
   parts_sub : (a sm gr o w : Bool) → (sm ≡ true → w ≡ true) → (sm ≡ true → o ≡ true) → (gr ≡ true → o ≡ true)
-    → Sub (map named (take (cond a (cond sm 9 (cond gr 8 6)) 4) all_parts)) (name ∷ four (aggregates_by o w))
+      → Sub (map named (take (cond a (cond sm 9 (cond gr 8 6)) 4) all_parts)) (name ∷ four (aggregates_by o w))
   parts_sub false sm gr o w f g h = four_sub [] (aggregates_by o w) (sub_nil (aggregates_by o w))
   parts_sub true true gr o w f g h = rw (f refl, g refl) (four_sub (aggregates_by true true) (aggregates_by true true) (sub_same (aggregates_by true true)))
   parts_sub true false true o w f g h = rw (h refl) (four_sub (aggregates_by true false) (aggregates_by true w) (ordered_sub w))
@@ -127,8 +132,8 @@ module _ (tables : List Table) (m : MetaTree) (k : TrackedTree) (tb : Table) (he
       held false x e same h later = or_right_true (test (column s k.table c).ty) goal_rest (later h)
 
       by : (o : Option Column) (n : Option (List ℕ)) → slice_get tb.columns c ≡ o
-        → list_any (λ (x : ShownColumn). test x.ty) (cons_option (under_name c o n) (shown_columns tb k cs)) ≡ true
-        → (rest ≡ true → goal_rest ≡ true) → (test (column s k.table c).ty || goal_rest) ≡ true
+          → list_any (λ (x : ShownColumn). test x.ty) (cons_option (under_name c o n) (shown_columns tb k cs)) ≡ true
+          → (rest ≡ true → goal_rest ≡ true) → (test (column s k.table c).ty || goal_rest) ≡ true
       by None n e h later = or_right_true (test (column s k.table c).ty) goal_rest (later h)
       by (Some x) None e h later = or_right_true (test (column s k.table c).ty) goal_rest (later h)
       by (Some x) (Some name) e h later = held (test x.ty) x refl (is x e) h later
@@ -169,7 +174,7 @@ module _ (tables : List Table) (m : MetaTree) (k : TrackedTree) (tb : Table) (he
     roots_sub = rw some (inr (rest_of t, refl, by t.aggregates (list_all (λ c. list_any (λ d. d == c) p.columns) tb.key) (key_is_named s k) key_named))
       where
         by : (g b n : Bool) → (b ≡ true → n ≡ true)
-          → Sub (cond g (k.roots.select_aggregate ∷ []) [] ++ key_names k.roots (cond b (Some (shown_columns tb k tb.key)) None))
+            → Sub (cond g (k.roots.select_aggregate ∷ []) [] ++ key_names k.roots (cond b (Some (shown_columns tb k tb.key)) None))
             (k.roots.select_aggregate ∷ cond n (k.roots.select_by_pk ∷ []) [])
         by true true n f = rw (f refl) (sub_same (k.roots.select_aggregate ∷ k.roots.select_by_pk ∷ []))
         by false true n f = rw (f refl) (inl (sub_same (k.roots.select_by_pk ∷ [])))
@@ -183,8 +188,8 @@ columns_named tb k [] = refl
 columns_named tb k (c ∷ cs) = by (slice_get tb.columns c) (slice_get k.column_names c) refl (columns_named tb k cs)
   where
     by : (o : Option Column) (n : Option (List ℕ)) → slice_get k.column_names c ≡ n
-      → Sub (map (λ (x : ShownColumn). x.name) (shown_columns tb k cs)) (map (λ d. get_or k.column_names d []) cs)
-      → Sub (map (λ (x : ShownColumn). x.name) (cons_option (under_name c o n) (shown_columns tb k cs)))
+        → Sub (map (λ (x : ShownColumn). x.name) (shown_columns tb k cs)) (map (λ d. get_or k.column_names d []) cs)
+        → Sub (map (λ (x : ShownColumn). x.name) (cons_option (under_name c o n) (shown_columns tb k cs)))
         (get_or k.column_names c [] ∷ map (λ d. get_or k.column_names d []) cs)
     by None n e later = inl later
     by (Some x) None e later = inl later
@@ -195,7 +200,7 @@ columns_named tb k (c ∷ cs) = by (slice_get tb.columns c) (slice_get k.column_
 pub columns_sub : (tb : Table) (k : TrackedTree) (cs : List ℕ) → Sub cs (named_columns k) → Sub (map (λ (c : ShownColumn). c.name) (shown_columns tb k cs)) (column_names_of k)
 columns_sub tb k cs chosen =
     sub_trans (map (λ (c : ShownColumn). c.name) (shown_columns tb k cs)) (map (λ c. get_or k.column_names c []) cs) (column_names_of k)
-      (columns_named tb k cs) (sub_map (λ c. get_or k.column_names c []) cs (named_columns k) chosen)
+    (columns_named tb k cs) (sub_map (λ c. get_or k.column_names c []) cs (named_columns k) chosen)
 
 -- the fields of columns are named for columns
 pub fields_sub : (q : Part) (cs : List ShownColumn) → Sub (map (λ (f : FieldTree). f.name) (column_fields q cs)) (map (λ (c : ShownColumn). c.name) cs)
@@ -203,7 +208,7 @@ fields_sub q [] = refl
 fields_sub q (c ∷ cs) = by (column_type q c) (fields_sub q cs)
   where
     by : (o : Option TypeRefTree) → Sub (map (λ (f : FieldTree). f.name) (column_fields q cs)) (map (λ (c : ShownColumn). c.name) cs)
-      → Sub
+        → Sub
         (map (λ (f : FieldTree). f.name) (cons_option (option_map (λ r. plain_field c.name r (field.Column c.col)) o) (column_fields q cs)))
         (c.name ∷ map (λ (c : ShownColumn). c.name) cs)
     by None later = inl later
@@ -222,8 +227,8 @@ module _ (m : MetaTree) (ps : List PlacedTable) (seen : Each (λ (p : PlacedTabl
 
   -- what each relationship gives, where those that lead to no shown table give nothing
   rels_sub : (f : Link → List (List ℕ)) (g : Rel → List (List ℕ))
-    → ((n : ℕ) (r : Rel) (p : PlacedTable) (l : Link) → link_to n r (Some p) ≡ Some l → Sub (f l) (g r)) → (n : ℕ) (rs : List Rel)
-    → Sub (flat_map f (links_from ps n rs)) (flat_map g (shown_rels rs))
+      → ((n : ℕ) (r : Rel) (p : PlacedTable) (l : Link) → link_to n r (Some p) ≡ Some l → Sub (f l) (g r)) → (n : ℕ) (rs : List Rel)
+      → Sub (flat_map f (links_from ps n rs)) (flat_map g (shown_rels rs))
   rels_sub f g step n [] = refl
   rels_sub f g step n (r ∷ rs) = by (find (λ (q : PlacedTable). q.shown.table == r.remote) ps) refl (rels_sub f g step (n + 1) rs)
     where
@@ -235,8 +240,8 @@ module _ (m : MetaTree) (ps : List PlacedTable) (seen : Each (λ (p : PlacedTabl
       skip false later = later
 
       by : (o : Option PlacedTable) → find (λ (q : PlacedTable). q.shown.table == r.remote) ps ≡ o
-        → Sub (flat_map f links) (flat_map g (shown_rels rs))
-        → Sub (flat_map f (cons_option (link_to n r o) links))
+          → Sub (flat_map f links) (flat_map g (shown_rels rs))
+          → Sub (flat_map f (cons_option (link_to n r o) links))
           (flat_map g (cond (is_in_schema m r.remote) (r ∷ shown_rels rs) (shown_rels rs)))
       by None e later = skip (is_in_schema m r.remote) later
       by (Some p) e later =
@@ -250,12 +255,12 @@ module _ (m : MetaTree) (ps : List PlacedTable) (seen : Each (λ (p : PlacedTabl
       subst (λ (x : Link). Sub (map (λ (x : FieldTree). x.name) (link_fields x)) (rel_fields r)) same (by r.many p.shown.aggregates)
     where
       by : (lots closed : Bool)
-        → Sub
+          → Sub
           (map (λ (x : FieldTree). x.name)
-             (cond lots
-                (list_field r.name p.first (field.«List» n)
-                   ∷ cond closed (aggregate_field (r.name ++ codes "_aggregate") p.first (field.ListAggregate n) ∷ []) [])
-                (plain_field r.name (part p.first Rows) (field.Object n) ∷ [])))
+          (cond lots
+          (list_field r.name p.first (field.«List» n)
+          ∷ cond closed (aggregate_field (r.name ++ codes "_aggregate") p.first (field.ListAggregate n) ∷ []) [])
+          (plain_field r.name (part p.first Rows) (field.Object n) ∷ [])))
           (r.name ∷ cond lots ((r.name ++ codes "_aggregate") ∷ []) [])
       by true true = sub_same (r.name ∷ (r.name ++ codes "_aggregate") ∷ [])
       by true false = inr ([], refl, sub_nil ((r.name ++ codes "_aggregate") ∷ []))
@@ -280,7 +285,7 @@ module _ (m : MetaTree) (ps : List PlacedTable) (seen : Each (λ (p : PlacedTabl
   given_flat q (l ∷ ls) = by (link_input q l) (given_flat q ls)
     where
       by : (o : Option ArgTree) → filter_map (link_input q) ls ≡ flat_map (λ (l : Link). cons_option (link_input q l) []) ls
-        → cons_option o (filter_map (link_input q) ls) ≡ cons_option o [] ++ flat_map (λ (l : Link). cons_option (link_input q l) []) ls
+          → cons_option o (filter_map (link_input q) ls) ≡ cons_option o [] ++ flat_map (λ (l : Link). cons_option (link_input q l) []) ls
       by None e = e
       by (Some x) e = ap (λ xs. x ∷ xs) e
 
@@ -299,6 +304,6 @@ module _ (m : MetaTree) (ps : List PlacedTable) (seen : Each (λ (p : PlacedTabl
       let P : List (List ℕ) → Type 0 = λ xs. Sub xs (map (λ (r : Rel). r.name) (shown_rels rs)) in
       let Q : List (List ℕ) → Type 0 = λ ys. Sub (flat_map (λ (l : Link). map (λ (x : ArgTree). x.name) (cons_option (link_input q l) [])) (links_from ps 0 rs)) ys in
       subst P (sym flat)
-        (subst Q (single_flat (shown_rels rs))
-           (rels_sub (λ (l : Link). map (λ (x : ArgTree). x.name) (cons_option (link_input q l) [])) (λ (r : Rel). r.name ∷ [])
-              (input_names q) 0 rs))
+      (subst Q (single_flat (shown_rels rs))
+      (rels_sub (λ (l : Link). map (λ (x : ArgTree). x.name) (cons_option (link_input q l) [])) (λ (r : Rel). r.name ∷ [])
+      (input_names q) 0 rs))

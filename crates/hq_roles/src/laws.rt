@@ -17,7 +17,7 @@ ghost use Rattle.hq_terms.specs.Fits.{fits};
 /// types, arguments and inputs have input types, all among the schema's types; and the columns of an enum are permitted.
 pub fn leads_where_permitted()
     ensures { (tables : List Table) (m : MetaTree) (role : Role) → all_differ (λ j k. j.table == k.table) m.tracked ≡ true
-          → Each (TypeFits (role_schema tables m role).types (access_of m role)) (role_schema tables m role).types }
+        → Each (TypeFits (role_schema tables m role).types (access_of m role)) (role_schema tables m role).types }
 {}
 
 /// Where a metadata fits its catalog, the names of the types of a role's schema differ, and so do those of the fields, of the

@@ -111,7 +111,7 @@ unlike_more s entries place i x least new alike at below is known alike_here e b
 
 -- the fields of one more set
 pub entries_more : (f : Entry → FieldTree) (view : Set → SetTree) → ((x : Set) → (view x).fields ≡ map f x.entries.items)
-  → (sets : List Set) (i : ℕ) (x : Set) (old new : List Entry) (all : List FieldTree)
+    → (sets : List Set) (i : ℕ) (x : Set) (old new : List Entry) (all : List FieldTree)
     → i < length sets → x ≡ get_or sets i x → new ≡ old ++ x.entries.items
     → map f old ++ flat_map (λ (t : SetTree). t.fields) (map view (drop i sets)) ≡ all
     → map f new ++ flat_map (λ (t : SetTree). t.fields) (map view (drop (i + 1) sets)) ≡ all

@@ -47,9 +47,9 @@ pub floor_from : (sets : List SetTree) (place : List ℕ → ℕ) (fields : List
     → All (λ f. IsAlikeAt fields (place f.key) f ⊎ AtMost floor f.at) fields → IsFloor sets floor
 floor_from sets place fields floor same all s t a b first second v =
     let stands =
-        λ (n : ℕ) (f : FieldTree) (h : Contains (fields_at sets n) f). All-contains
-          (λ f. IsAlikeAt fields (place f.key) f ⊎ AtMost floor f.at) fields f all
-          (subst (λ (fs : List FieldTree). Contains fs f) (sym same) (among_all sets n f h)) in
+    λ (n : ℕ) (f : FieldTree) (h : Contains (fields_at sets n) f). All-contains
+    (λ f. IsAlikeAt fields (place f.key) f ⊎ AtMost floor f.at) fields f all
+    (subst (λ (fs : List FieldTree). Contains fs f) (sym same) (among_all sets n f h)) in
     (elim (stands s a first) [
       | inr low ↦ at_most_left floor a.at b.at low
       | inl x ↦

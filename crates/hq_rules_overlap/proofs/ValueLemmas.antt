@@ -57,7 +57,7 @@ mutual
   members_itself no_member = refl
   members_itself (member m x xs) =
       and_from (bytes_eq m m) (same_value x x && same_members xs xs) (true_bytes m m refl)
-        (and_from (same_value x x) (same_members xs xs) (value_itself x) (members_itself xs))
+      (and_from (same_value x x) (same_members xs xs) (value_itself x) (members_itself xs))
 
 given_true : (a b : Option BareTree) → same_given a b ≡ true → a ≡ b
 given_true None None h = refl

@@ -27,7 +27,7 @@ members_over (r ∷ right) (suc i) h = members_over right i (omega arith)
 
 -- the end of both lists
 pub elements_end : (left right : List Placed) (i : ℕ) → length left ≤ i → i ≤ length left → (b : Bool)
-  → b ≡ nat_le (length right) (length left) → b ≡ same_elements (Elements left i) (Elements right i)
+    → b ≡ nat_le (length right) (length left) → b ≡ same_elements (Elements left i) (Elements right i)
 elements_end left right i h k true e =
     let short : length right ≤ i = (let n = leb-true (length right) (length left) (sym e) in omega arith) in
     sym (ap (λ ps. same_elements (bare_elements (elements_of (map placed_view ps))) (Elements right i)) (drop_end left i h)

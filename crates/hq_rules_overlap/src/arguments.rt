@@ -26,10 +26,10 @@ fn note_named<'a>(values: &mut Values<'a>, name: &'a str, value: &'a Value) -> R
 // Notes the value of an argument, where none of its name is noted yet.
 fn note_value<'a>(values: &mut Values<'a>, argument: &'a Argument) -> Result<(), Memory>
     ensures { OnOk result
-          ((q : List ℕ)
-             → given_in values.new q
-               ≡ option_or (given_in values.old q)
-                 (if bytes_eq (argument_view argument.now).name q then Some (bare (argument_view argument.now).value.value) else None)) }
+        ((q : List ℕ)
+        → given_in values.new q
+        ≡ option_or (given_in values.old q)
+        (if bytes_eq (argument_view argument.now).name q then Some (bare (argument_view argument.now).value.value) else None)) }
 {
     note_named(&mut *values, argument.name.as_str(), &argument.value.value)
 }

@@ -106,9 +106,9 @@ fn least_unlike(
     places: &NamePlaces<'_>,
 ) -> Result<Option<u64>, Memory>
     ensures { IfOk result
-          (λ least. All
-             (λ f. IsAlikeAt (map (entry_view (schema_view schema.now)) entries.now) (place_in places.now f.key) f ⊎ AtMost least f.at)
-             (map (entry_view (schema_view schema.now)) entries.now)) }
+        (λ least. All
+        (λ f. IsAlikeAt (map (entry_view (schema_view schema.now)) entries.now) (place_in places.now f.key) f ⊎ AtMost least f.at)
+        (map (entry_view (schema_view schema.now)) entries.now)) }
 {
     let mut least = None;
     for entry in entries {

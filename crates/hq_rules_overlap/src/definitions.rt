@@ -45,19 +45,19 @@ fn add_definition<'a>(
 ) -> Result<(), Memory>
     ensures length { OnOk result (length sets.new.items ≡ length sets.old.items + field_count (selections_of_definition (definition_view definition.now))) }
     ensures roots { OnOk result
-          (map (set_view (schema_view schema.now)) roots.new.items
-             ≡ map (set_view (schema_view schema.now)) roots.old.items
-               ++
-                 (set_of (schema_view schema.now) (get_name places.now) (first + length sets.old.items)
-                      (parent_of (schema_view schema.now) (definition_view definition.now))
-                      (selections_of_definition (definition_view definition.now))
-                    ∷ [])) }
+        (map (set_view (schema_view schema.now)) roots.new.items
+        ≡ map (set_view (schema_view schema.now)) roots.old.items
+        ++
+        (set_of (schema_view schema.now) (get_name places.now) (first + length sets.old.items)
+        (parent_of (schema_view schema.now) (definition_view definition.now))
+        (selections_of_definition (definition_view definition.now))
+        ∷ [])) }
     ensures sets { OnOk result
-          (map (set_view (schema_view schema.now)) sets.new.items
-             ≡ map (set_view (schema_view schema.now)) sets.old.items
-               ++ inner_sets (schema_view schema.now) (get_name places.now) (first + length sets.old.items)
-                 (parent_of (schema_view schema.now) (definition_view definition.now))
-                 (selections_of_definition (definition_view definition.now))) }
+        (map (set_view (schema_view schema.now)) sets.new.items
+        ≡ map (set_view (schema_view schema.now)) sets.old.items
+        ++ inner_sets (schema_view schema.now) (get_name places.now) (first + length sets.old.items)
+        (parent_of (schema_view schema.now) (definition_view definition.now))
+        (selections_of_definition (definition_view definition.now))) }
 {
     let mut set = empty_set(alloc);
     let parent = parent_of(schema, definition);

@@ -33,9 +33,9 @@ fn push_entry<'a>(
     below: usize,
 ) -> Result<(), Memory>
     ensures entries { OnOk result
-          (map (entry_view (schema_view schema.now)) set.new.entries.items
-             ≡ map (entry_view (schema_view schema.now)) set.old.entries.items
-               ++ option_to_list (seen_field (schema_view schema.now) parent (field_view field.now).0 below)) }
+        (map (entry_view (schema_view schema.now)) set.new.entries.items
+        ≡ map (entry_view (schema_view schema.now)) set.old.entries.items
+        ++ option_to_list (seen_field (schema_view schema.now) parent (field_view field.now).0 below)) }
     ensures spreads { set.new.spreads.items ≡ set.old.spreads.items }
 {
     let Some(t) = parent else {
@@ -89,16 +89,16 @@ fn add_field<'a>(
 ) -> Result<(), Memory>
     ensures length { OnOk result (length sets.new.items ≡ length sets.old.items + field_count_of (field_tree (field_view field.now).0 (field_view field.now).1)) }
     ensures fields { OnOk result
-          (map (entry_view (schema_view schema.now)) set.new.entries.items
-             ≡ map (entry_view (schema_view schema.now)) set.old.entries.items
-               ++ own_fields_of (schema_view schema.now) (first + length sets.old.items) parent
-                 (field_tree (field_view field.now).0 (field_view field.now).1)) }
+        (map (entry_view (schema_view schema.now)) set.new.entries.items
+        ≡ map (entry_view (schema_view schema.now)) set.old.entries.items
+        ++ own_fields_of (schema_view schema.now) (first + length sets.old.items) parent
+        (field_tree (field_view field.now).0 (field_view field.now).1)) }
     ensures spreads { OnOk result (set.new.spreads.items ≡ set.old.spreads.items ++ own_spreads_of (get_name places.now) (field_tree (field_view field.now).0 (field_view field.now).1)) }
     ensures sets { OnOk result
-          (map (set_view (schema_view schema.now)) sets.new.items
-             ≡ map (set_view (schema_view schema.now)) sets.old.items
-               ++ inner_sets_of (schema_view schema.now) (get_name places.now) (first + length sets.old.items) parent
-                 (field_tree (field_view field.now).0 (field_view field.now).1)) }
+        (map (set_view (schema_view schema.now)) sets.new.items
+        ≡ map (set_view (schema_view schema.now)) sets.old.items
+        ++ inner_sets_of (schema_view schema.now) (get_name places.now) (first + length sets.old.items) parent
+        (field_tree (field_view field.now).0 (field_view field.now).1)) }
 {
     let mut inner = empty_set(alloc);
     let below = below_field(schema, parent, &field.name);
@@ -130,15 +130,15 @@ fn add_selection<'a>(
 ) -> Result<(), Memory>
     ensures length { OnOk result (length sets.new.items ≡ length sets.old.items + field_count_of (selection_view selection.now)) }
     ensures fields { OnOk result
-          (map (entry_view (schema_view schema.now)) set.new.entries.items
-             ≡ map (entry_view (schema_view schema.now)) set.old.entries.items
-               ++ own_fields_of (schema_view schema.now) (first + length sets.old.items) parent (selection_view selection.now)) }
+        (map (entry_view (schema_view schema.now)) set.new.entries.items
+        ≡ map (entry_view (schema_view schema.now)) set.old.entries.items
+        ++ own_fields_of (schema_view schema.now) (first + length sets.old.items) parent (selection_view selection.now)) }
     ensures spreads { OnOk result (set.new.spreads.items ≡ set.old.spreads.items ++ own_spreads_of (get_name places.now) (selection_view selection.now)) }
     ensures sets { OnOk result
-          (map (set_view (schema_view schema.now)) sets.new.items
-             ≡ map (set_view (schema_view schema.now)) sets.old.items
-               ++ inner_sets_of (schema_view schema.now) (get_name places.now) (first + length sets.old.items) parent
-                 (selection_view selection.now)) }
+        (map (set_view (schema_view schema.now)) sets.new.items
+        ≡ map (set_view (schema_view schema.now)) sets.old.items
+        ++ inner_sets_of (schema_view schema.now) (get_name places.now) (first + length sets.old.items) parent
+        (selection_view selection.now)) }
 {
     match selection {
         Selection::Field(field) => add_field(
@@ -176,16 +176,16 @@ pub fn add_selections<'a>(
 ) -> Result<(), Memory>
     ensures length { OnOk result (length sets.new.items ≡ length sets.old.items + field_count (selections_of (map selection_view selections.now.items))) }
     ensures fields { OnOk result
-          (map (entry_view (schema_view schema.now)) set.new.entries.items
-             ≡ map (entry_view (schema_view schema.now)) set.old.entries.items
-               ++ own_fields (schema_view schema.now) (first + length sets.old.items) parent
-                 (selections_of (map selection_view selections.now.items))) }
+        (map (entry_view (schema_view schema.now)) set.new.entries.items
+        ≡ map (entry_view (schema_view schema.now)) set.old.entries.items
+        ++ own_fields (schema_view schema.now) (first + length sets.old.items) parent
+        (selections_of (map selection_view selections.now.items))) }
     ensures spreads { OnOk result (set.new.spreads.items ≡ set.old.spreads.items ++ own_spreads (get_name places.now) (selections_of (map selection_view selections.now.items))) }
     ensures sets { OnOk result
-          (map (set_view (schema_view schema.now)) sets.new.items
-             ≡ map (set_view (schema_view schema.now)) sets.old.items
-               ++ inner_sets (schema_view schema.now) (get_name places.now) (first + length sets.old.items) parent
-                 (selections_of (map selection_view selections.now.items))) }
+        (map (set_view (schema_view schema.now)) sets.new.items
+        ≡ map (set_view (schema_view schema.now)) sets.old.items
+        ++ inner_sets (schema_view schema.now) (get_name places.now) (first + length sets.old.items) parent
+        (selections_of (map selection_view selections.now.items))) }
 {
     for selection in selections {
         add_selection(

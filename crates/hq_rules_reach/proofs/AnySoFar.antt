@@ -17,7 +17,7 @@ or_assoc false b c = refl
 
 -- one more item
 pub any_take-more : {A : Type 0} (p : A → Bool) (xs : List A) (i : ℕ) (d x : A) (old new : Bool) → i < length xs → x ≡ get_or xs i d
-  → old ≡ list_any p (take i xs) → new ≡ (p x || old) → new ≡ list_any p (take (i + 1) xs)
+    → old ≡ list_any p (take i xs) → new ≡ (p x || old) → new ≡ list_any p (take (i + 1) xs)
 any_take-more p xs i d x old new below is so_far now =
     now
     ∙ or_swap (p x) old
@@ -27,15 +27,15 @@ any_take-more p xs i d x old new below is so_far now =
 
 -- one more item that stands for another
 pub any_map_take-more : {A B : Type 0} (p : B → Bool) (v : A → B) (xs : List A) (i : ℕ) (d x : A) (old new : Bool) → i < length xs
-  → x ≡ get_or xs i d → old ≡ list_any p (map v (take i xs)) → new ≡ (p (v x) || old) → new ≡ list_any p (map v (take (i + 1) xs))
+    → x ≡ get_or xs i d → old ≡ list_any p (map v (take i xs)) → new ≡ (p (v x) || old) → new ≡ list_any p (map v (take (i + 1) xs))
 any_map_take-more p v xs i d x old new below is so_far now =
     any_take-more (λ z. p (v z)) xs i d x old new below is (so_far ∙ any_map_of p v (take i xs)) now
     ∙ sym (any_map_of p v (take (i + 1) xs))
 
 -- the same, where something was marked before the loop
 pub any_or_take-more : {A B : Type 0} (p : B → Bool) (v : A → B) (xs : List A) (i : ℕ) (d x : A) (first old new : Bool) → i < length xs
-  → x ≡ get_or xs i d → old ≡ (list_any p (map v (take i xs)) || first) → new ≡ (p (v x) || old)
-  → new ≡ (list_any p (map v (take (i + 1) xs)) || first)
+    → x ≡ get_or xs i d → old ≡ (list_any p (map v (take i xs)) || first) → new ≡ (p (v x) || old)
+    → new ≡ (list_any p (map v (take (i + 1) xs)) || first)
 any_or_take-more p v xs i d x first old new below is so_far now =
     now
     ∙ ap (λ b. p (v x) || b) so_far

@@ -24,7 +24,7 @@ numbered_kept old new kept us h = All-weaker (IsNumbered old) (IsNumbered new) (
 pub all_numbered_kept : (old new : Places) → Keeps old new → (all : List (Vec Use Global)) → AreNumbered old all → AreNumbered new all
 all_numbered_kept old new kept all h =
     All-weaker (λ (us : Vec Use Global). All (IsNumbered old) us.items) (λ (us : Vec Use Global). All (IsNumbered new) us.items)
-      (λ us e. numbered_kept old new kept us.items e) all h
+    (λ us e. numbered_kept old new kept us.items e) all h
 
 -- the least place among some uses, by names and by numbers
 least_by : (f : UseTree (List ℕ) → Option ℕ) (g : UseTree ℕ → Option ℕ) (number_of : Places) → ((u : Use) → IsNumbered number_of u → f (use_view u) ≡ g (number_view u))

@@ -28,8 +28,8 @@ fn mark(marks: &mut Vec<bool>, number: usize)
 fn mark_uses(marks: &mut Vec<bool>, uses: &[Use<'_>])
     ensures length { length marks.new.items ≡ length marks.old.items }
     ensures marked { (n : ℕ) → n < length marks.old.items
-          → slice_index_or marks.new.items n false
-            ≡ (list_any (λ u. u.name == n) (map number_view uses.now) || slice_index_or marks.old.items n false) }
+        → slice_index_or marks.new.items n false
+        ≡ (list_any (λ u. u.name == n) (map number_view uses.now) || slice_index_or marks.old.items n false) }
 {
     for found in uses {
         mark(&mut *marks, found.number);
@@ -40,8 +40,8 @@ fn mark_uses(marks: &mut Vec<bool>, uses: &[Use<'_>])
 fn mark_uses_at(marks: &mut Vec<bool>, all: &[Vec<Use<'_>>], at: usize)
     ensures length { length marks.new.items ≡ length marks.old.items }
     ensures marked { (n : ℕ) → n < length marks.old.items
-          → slice_index_or marks.new.items n false
-            ≡ (list_any (λ u. u.name == n) (uses_at (numbers_view all.now) at) || slice_index_or marks.old.items n false) }
+        → slice_index_or marks.new.items n false
+        ≡ (list_any (λ u. u.name == n) (uses_at (numbers_view all.now) at) || slice_index_or marks.old.items n false) }
 {
     match all.get(at) {
         Some(uses) => mark_uses(&mut *marks, uses),

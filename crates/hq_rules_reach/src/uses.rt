@@ -62,9 +62,9 @@ fn push_value<'a>(
     ensures kept { OnOk result (Keeps (get_name numbers.old.names) (get_name numbers.new.names)) }
     ensures numbered { OnOk result (All (IsNumbered (get_name numbers.new.names)) uses.new.items) }
     ensures uses { OnOk result
-          (map use_view uses.new.items
-             ≡ map use_view uses.old.items
-               ++ option_to_list (use_in (placed_view placed.now).at (option_map place_view place.entry) (placed_view placed.now).value)) }
+        (map use_view uses.new.items
+        ≡ map use_view uses.old.items
+        ++ option_to_list (use_in (placed_view placed.now).at (option_map place_view place.entry) (placed_view placed.now).value)) }
 {
     match &placed.value {
         Value::Variable(name) => push_use(

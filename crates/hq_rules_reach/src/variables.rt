@@ -64,8 +64,8 @@ fn note_variable(
     requires { AreNumbers (get_name numbers.now) (length places.old.items) }
     ensures length { length places.new.items ≡ length places.old.items }
     ensures noted { (q : List ℕ) (n : ℕ) → get_name numbers.now q ≡ Some n
-          → numbered_place places.new.items n
-            ≡ option_or (numbered_place places.old.items n) (if bytes_eq (var_def_view var_def.now).name q then Some at else None) }
+        → numbered_place places.new.items n
+        ≡ option_or (numbered_place places.old.items n) (if bytes_eq (var_def_view var_def.now).name q then Some at else None) }
 {
     match number_of(numbers, &var_def.name) {
         Some(number) => note_place(&mut *places, number, at),

@@ -48,7 +48,7 @@ Serving {L} deny give t f f' olds news at e =
 
 -- the same behind a first link, which stays
 pub record Behind {L : Type 0} (deny : List Header → Type 0) (give : List Header → List ℕ → Reply → Type 0) (t : Told L) (f f' : ℕ)
-  (first : L) (olds news : List L) (at : ℕ) (e : ConnEnd) : Type 0 where
+    (first : L) (olds news : List L) (at : ℕ) (e : ConnEnd) : Type 0 where
   pub rest : List L
   pub all : news ≡ first ∷ rest
   pub served : Serving deny give t f f' olds rest at e
@@ -60,19 +60,23 @@ behind_first {L} deny give t f f' first olds news at e s =
     → Behind deny give t f f' first olds news at e =
     elim [
       | None
-        ↦ λ g h. record
-          { rest = olds; all = h;
-             served = subst
-               (λ (o : Option L). MatchOption o (olds ≡ olds)
-                  (λ old. (new : L) × ServedLink deny give t f f' old new e × (olds ≡ slice_set olds at new)))
-               g refl }
+          ↦ λ g h. record {
+            rest = olds;
+            all = h;
+            served = subst
+                (λ (o : Option L). MatchOption o (olds ≡ olds)
+                (λ old. (new : L) × ServedLink deny give t f f' old new e × (olds ≡ slice_set olds at new)))
+                g refl;
+          }
       | Some x
-        ↦ λ g h. record
-          { rest = slice_set olds at h.0; all = h.2;
-             served = subst
-               (λ (o : Option L). MatchOption o (slice_set olds at h.0 ≡ olds)
-                  (λ old. (new : L) × ServedLink deny give t f f' old new e × (slice_set olds at h.0 ≡ slice_set olds at new)))
-               g (h.0, h.1, refl) }
+          ↦ λ g h. record {
+            rest = slice_set olds at h.0;
+            all = h.2;
+            served = subst
+                (λ (o : Option L). MatchOption o (slice_set olds at h.0 ≡ olds)
+                (λ old. (new : L) × ServedLink deny give t f f' old new e × (slice_set olds at h.0 ≡ slice_set olds at new)))
+                g (h.0, h.1, refl);
+          }
     ] in
     go (slice_get olds at) refl s
 
@@ -98,7 +102,7 @@ each_more {L} deny give t f f1 f2 (o ∷ os) (n ∷ ns) news' (x ∷ es) e (g, k
 
 -- the same with a responder that may do less by now
 pub each_more_told : {L : Type 0} (d d' : List Header → Type 0) (v v' : List Header → List ℕ → Reply → Type 0) (t : Told L) (f f1 f2 : ℕ)
-  (olds news : List L) (links : Option (List L)) (es : List ConnEnd) (e : ConnEnd)
+    (olds news : List L) (links : Option (List L)) (es : List ConnEnd) (e : ConnEnd)
     → ((fs : List Header) → d fs → d' fs) → ((fs : List Header) (b : List ℕ) (r : Reply) → v fs b r → v' fs b r)
     → EachServed d' v' t f f1 olds news es → f1 ≤ f2 → ServesNext d v t f1 f2 (Some news) links (length es) e
     → IfSome links (λ news'. EachServed d' v' t f f2 olds news' (es ++ e ∷ []))

@@ -24,12 +24,12 @@ ran_none {L} deny give t accepted links f written =
 
 -- a connection more, before its line
 pub record OneMore {L : Type 0} (deny : List Header → Type 0) (give : List Header → List ℕ → Reply → Type 0) (t : Told L)
-  (n accepted accepted' : ℕ) (links links' : Option (List L)) (f f' : ℕ) (ends : List ConnEnd) (e : ConnEnd) : Type 0 where
+    (n accepted accepted' : ℕ) (links links' : Option (List L)) (f f' : ℕ) (ends : List ConnEnd) (e : ConnEnd) : Type 0 where
   pub later : f ≤ f'
   pub told : accepted ≡ 0 → (accepted' ≡ n + 1) × IfSome links (λ olds. IfSome links' (λ news. EachServed deny give t f f' olds news (ends ++ e ∷ [])))
 
 pub one_more_served : {L : Type 0} (deny deny' : List Header → Type 0) (give give' : List Header → List ℕ → Reply → Type 0) (t : Told L)
-  (n a a1 a2 : ℕ) (links links1 links2 : Option (List L)) (f f1 f2 : ℕ) (w w1 : Option (List ℕ)) (e : ConnEnd)
+    (n a a1 a2 : ℕ) (links links1 links2 : Option (List L)) (f f1 f2 : ℕ) (w w1 : Option (List ℕ)) (e : ConnEnd)
     → (r : RanOn deny give t n a a1 links links1 f f1 w w1) → n < 2 ^ 32
     → ((fs : List Header) → deny' fs → deny fs) → ((fs : List Header) (b : List ℕ) (p : Reply) → give' fs b p → give fs b p)
     → f1 ≤ f2 → (a1 < 2 ^ 64 - 1 → ServesNext deny' give' t f1 f2 links1 links2 a1 e) → a2 ≡ one_more a1
@@ -55,7 +55,7 @@ one_more_served {L} deny deny' give give' t n a a1 a2 links links1 links2 f f1 f
 
 -- and its line
 pub ran_more : {L : Type 0} (deny : List Header → Type 0) (give : List Header → List ℕ → Reply → Type 0) (t : Told L) (n a a1 a2 : ℕ)
-  (links links1 links2 : Option (List L)) (f f1 f2 : ℕ) (w w1 w2 : Option (List ℕ)) (e : ConnEnd)
+    (links links1 links2 : Option (List L)) (f f1 f2 : ℕ) (w w1 w2 : Option (List ℕ)) (e : ConnEnd)
     → (r : RanOn deny give t n a a1 links links1 f f1 w w1) → OneMore deny give t n a a2 links links2 f f2 r.ends e
     → Appends w1 w2 (line_of (n + 1) e) → RanOn deny give t (n + 1) a a2 links links2 f f2 w w2
 ran_more deny give t n a a1 a2 links links1 links2 f f1 f2 w w1 w2 e r o line =
@@ -69,12 +69,16 @@ ran_more deny give t n a a1 a2 links links1 links2 f f1 f2 w w1 w2 e r o line =
 
 -- a line was not written whole
 pub serves_unwritten : {L : Type 0} (deny : List Header → Type 0) (give : List Header → List ℕ → Reply → Type 0) (t : Told L)
-  (n m a a1 a2 : ℕ) (links links1 links2 : Option (List L)) (f f1 f2 : ℕ) (w w1 w2 : Option (List ℕ)) (e : ConnEnd) (x : ServeRefusal)
+    (n m a a1 a2 : ℕ) (links links1 links2 : Option (List L)) (f f1 f2 : ℕ) (w w1 w2 : Option (List ℕ)) (e : ConnEnd) (x : ServeRefusal)
     → (r : RanOn deny give t n a a1 links links1 f f1 w w1) → OneMore deny give t n a a2 links links2 f f2 r.ends e → n < m
     → Wrote w1 w2 (line_of (n + 1) e) (Err x) → Serves deny give t m a a2 links links2 f f2 w w2 (Err x)
 serves_unwritten deny give t n m a a1 a2 links links1 links2 f f1 f2 w w1 w2 e x r o lt wrote =
-    record
-      { ends = r.ends ++ e
-         ∷ []; few = omega (arith, length-append r.ends (e ∷ []), r.count, lt); all = tt;
-           lines = line_failed n r.ends e w w1 w2 x r.count r.lines wrote; later = o.later;
-           told = λ none. let told = o.told none in (told.0 ∙ sym (length-append r.ends (e ∷ []) ∙ ap (λ k. k + 1) r.count), told.1) }
+    record {
+      ends = r.ends ++ e
+          ∷ [];
+      few = omega (arith, length-append r.ends (e ∷ []), r.count, lt);
+      all = tt;
+      lines = line_failed n r.ends e w w1 w2 x r.count r.lines wrote;
+      later = o.later;
+      told = λ none. let told = o.told none in (told.0 ∙ sym (length-append r.ends (e ∷ []) ∙ ap (λ k. k + 1) r.count), told.1);
+    }

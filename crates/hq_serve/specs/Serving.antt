@@ -61,8 +61,8 @@ LinesBy old new ends (Err refusal.Memory) = (n : ℕ) × Appends old new (lines_
 -- so many connections were to be served, and these ended. Where the door had accepted none, it accepted one for each end,
 -- and where it tells its links, each told link was served in its turn.
 pub record Serves {L : Type 0} (deny : List Header → Type 0) (give : List Header → List ℕ → Reply → Type 0) (t : Told L) (connections : ℕ)
-  (accepted accepted' : ℕ) (links links' : Option (List L)) (f f' : ℕ) (written written' : Option (List ℕ))
-  (result : Result (Unit {0}) ServeRefusal) : Type 0 where
+    (accepted accepted' : ℕ) (links links' : Option (List L)) (f f' : ℕ) (written written' : Option (List ℕ))
+    (result : Result (Unit {0}) ServeRefusal) : Type 0 where
   pub ends : List ConnEnd
   pub few : length ends ≤ connections
   pub all : OnOk result (length ends ≡ connections)
@@ -72,7 +72,7 @@ pub record Serves {L : Type 0} (deny : List Header → Type 0) (give : List Head
 
 -- the first n connections were served, and their lines were written
 pub record RanOn {L : Type 0} (deny : List Header → Type 0) (give : List Header → List ℕ → Reply → Type 0) (t : Told L) (n : ℕ)
-  (accepted accepted' : ℕ) (links links' : Option (List L)) (f f' : ℕ) (written written' : Option (List ℕ)) : Type 0 where
+    (accepted accepted' : ℕ) (links links' : Option (List L)) (f f' : ℕ) (written written' : Option (List ℕ)) : Type 0 where
   pub ends : List ConnEnd
   pub count : length ends ≡ n
   pub lines : Appends written written' (lines_from 1 ends)

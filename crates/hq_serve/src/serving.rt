@@ -86,11 +86,11 @@ fn serve_next<D: Door, H: Responder>(
     requires { H.ready responder.old }
     ensures ready { H.ready responder.new }
     ensures serves { IfOk result
-          (λ end. D.accepted door.old < 2 ^ 64 - 1
-             → ServesNext (H.may_deny responder.old) (H.may_give responder.old)
-               (record
-                  { left = D.Link.left; written = D.Link.written; read_faults = D.Link.read_faults; write_faults = D.Link.write_faults })
-               (H.faults responder.old) (H.faults responder.new) (D.links door.old) (D.links door.new) (D.accepted door.old) end) }
+        (λ end. D.accepted door.old < 2 ^ 64 - 1
+        → ServesNext (H.may_deny responder.old) (H.may_give responder.old)
+        (record
+        { left = D.Link.left; written = D.Link.written; read_faults = D.Link.read_faults; write_faults = D.Link.write_faults })
+        (H.faults responder.old) (H.faults responder.new) (D.links door.old) (D.links door.new) (D.accepted door.old) end) }
     ensures accepted { OnOk result (D.accepted door.new ≡ one_more (D.accepted door.old)) }
     ensures cause { HasCause (D.faults door.old) (D.faults door.new) result }
     ensures links { OnErr result (D.links door.new ≡ D.links door.old) }
@@ -118,9 +118,9 @@ pub fn serve<D: Door, H: Responder, K: Sink>(
 
     // Which links were served, how, and what was written after them.
     ensures serves { Serves (H.may_deny responder.old) (H.may_give responder.old)
-          (record { left = D.Link.left; written = D.Link.written; read_faults = D.Link.read_faults; write_faults = D.Link.write_faults })
-          connections (D.accepted door.old) (D.accepted door.new) (D.links door.old) (D.links door.new) (H.faults responder.old)
-          (H.faults responder.new) (K.written out.old) (K.written out.new) result }
+        (record { left = D.Link.left; written = D.Link.written; read_faults = D.Link.read_faults; write_faults = D.Link.write_faults })
+        connections (D.accepted door.old) (D.accepted door.new) (D.links door.old) (D.links door.new) (H.faults responder.old)
+        (H.faults responder.new) (K.written out.old) (K.written out.new) result }
 
     // A failure is told only where that count rose.
     ensures door { IsErrOf result ServeRefusal.DoorFailed → Rose (D.faults door.old) (D.faults door.new) }

@@ -37,7 +37,7 @@ pub space_at_end : (text : List ℕ) (x : List ℕ) → text ≡ x ++ 32 ∷ [] 
 space_at_end text x e = rw (reversed text x 32 e) refl
 
 pub tab_or_none_at_end : (text : List ℕ) (r : Option (Bor (List ℕ))) → ((front : List ℕ) → text ≢ front ++ 32 ∷ [])
-  → MatchOption r ((front : List ℕ) → text ≢ front ++ 9 ∷ []) (λ x. text ≡ x.now ++ 9 ∷ [])
+    → MatchOption r ((front : List ℕ) → text ≢ front ++ 9 ∷ []) (λ x. text ≡ x.now ++ 9 ∷ [])
     → MatchOption r (behind_blank (reverse text) ≡ None) (λ x. behind_blank (reverse text) ≡ Some (reverse x.now))
 tab_or_none_at_end text None space tab = no_blank (reverse text) (not_behind text 32 space) (not_behind text 9 tab)
 tab_or_none_at_end text (Some x) space tab = rw (reversed text x.now 9 tab) refl
@@ -89,7 +89,7 @@ clean_turned xs h = subst (λ ys. has_zero ys ≡ false) (reverse_twice xs) (cle
 
 -- the same for the blanks at a text's end
 pub blank_taken_at_end : (text rest : List ℕ) → behind_blank (reverse text) ≡ Some (reverse rest)
-  → (behind_blanks (reverse text) ≡ behind_blanks (reverse rest)) × (length rest < length text)
+    → (behind_blanks (reverse text) ≡ behind_blanks (reverse rest)) × (length rest < length text)
     × (has_zero text ≡ false → has_zero rest ≡ false)
 blank_taken_at_end text rest h =
     let behind = blank_taken (reverse text) (reverse rest) h in

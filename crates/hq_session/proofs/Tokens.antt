@@ -33,7 +33,7 @@ split_at_colon text (Some x) h = (some_passes is_colon text h.0, h.1, h.2)
 lower_suc : (b : ℕ) → nat_eq (to_ascii_lowercase (suc b)) 0 ≡ false
 lower_suc b =
     let go : (p q : Bool) → nat_eq (cond p (suc b) (cond q (suc b + 32) (suc b))) 0 ≡ false =
-        elim [ true ↦ λ q. eqb-suc-zero b | false ↦ elim [ true ↦ ne_eqb (suc b + 32) 0 (λ e. omega (arith, e)) | false ↦ eqb-suc-zero b ] ] in
+    elim [ true ↦ λ q. eqb-suc-zero b | false ↦ elim [ true ↦ ne_eqb (suc b + 32) 0 (λ e. omega (arith, e)) | false ↦ eqb-suc-zero b ] ] in
     go (nat_lt (suc b) 65) (nat_lt (suc b) 91)
 
 token_byte_is : (b : ℕ) → is_token_byte b ≡ true → nat_eq (to_ascii_lowercase b) 0 ≡ false

@@ -38,8 +38,8 @@ fn is_token(text: &str) -> bool
 // What stands before the first colon of a text, and what stands behind it.
 fn split(text: &str) -> Option<(&str, &str)>
     ensures { MatchOption result (list_any is_colon text.now ≡ false)
-          (λ parts. (list_any is_colon text.now ≡ true) × (parts.0.now ≡ before_first is_colon text.now)
-             × (parts.1.now ≡ after_first is_colon text.now)) }
+        (λ parts. (list_any is_colon text.now ≡ true) × (parts.0.now ≡ before_first is_colon text.now)
+        × (parts.1.now ≡ after_first is_colon text.now)) }
 {
     text.split_once(':')
 }

@@ -146,7 +146,7 @@ seen_grows keys key x is y =
 
 -- whether the set has the values of a row
 seen_found : {T : Type 0} (keys : List (Vec SeenCell)) (key : Vec SeenCell) (x : Kept T) → key.items ≡ map seen_of x.distinct.items
-  → list_any (λ k. is_eq (rows_cmp key.items k.items)) keys ≡ seen_in keys x
+    → list_any (λ k. is_eq (rows_cmp key.items k.items)) keys ≡ seen_in keys x
 seen_found [] key x is = refl
 seen_found (k ∷ keys) key x is =
     ap₂ (λ a b. a || b) (flip_is_eq key.items k.items ∙ ap (λ ks. is_eq (rows_cmp k.items ks)) is) (seen_found keys key x is)
@@ -159,16 +159,16 @@ append_assoc (x ∷ xs) ys zs = ap (λ l. x ∷ l) (append_assoc xs ys zs)
 pub fresh_begin : {T : Type 0} (keys : List (Vec SeenCell)) (kept old rows : List (Kept T)) → keys ≡ [] → kept ≡ [] → old ≡ rows → kept ++ fresh same_group (seen_in keys) old ≡ firsts same_group rows
 fresh_begin {T} keys kept old rows k e is =
     let none : fresh same_group (seen_in []) rows ≡ firsts same_group rows =
-        filter_all (λ x. not (seen_in [] x)) (firsts same_group rows)
-          (each_all (λ (x : Kept T). not (seen_in [] x) ≡ true) (λ x. refl) (firsts same_group rows)) in
+    filter_all (λ x. not (seen_in [] x)) (firsts same_group rows)
+    (each_all (λ (x : Kept T). not (seen_in [] x) ≡ true) (λ x. refl) (firsts same_group rows)) in
     rw (k, e, is) none
 
 abbrev inserted : List (Vec SeenCell) → Vec SeenCell → List (Vec SeenCell)
 inserted keys key = insert_key (λ j k. rows_cmp j.items k.items) keys key
 
 module _ {T : Type 0} (keys later : List (Vec SeenCell)) (key : Vec SeenCell) (x : Kept T) (kept old new all : List (Kept T))
-  (is : key.items ≡ map seen_of x.distinct.items) (puts : later ≡ inserted keys key) (next : old ≡ x ∷ new)
-  (before : kept ++ fresh same_group (seen_in keys) old ≡ all) where
+    (is : key.items ≡ map seen_of x.distinct.items) (puts : later ≡ inserted keys key) (next : old ≡ x ∷ new)
+    (before : kept ++ fresh same_group (seen_in keys) old ≡ all) where
   step : kept ++ cond (seen_in keys x) (fresh same_group (seen_in later) new) (x ∷ fresh same_group (seen_in later) new) ≡ all
   step =
       let grows : (y : Kept T) → seen_in later y ≡ (same_group x y || seen_in keys y) = λ y. ap (λ ks. seen_in ks y) puts ∙ seen_grows keys key x is y in
@@ -187,7 +187,7 @@ module _ {T : Type 0} (keys later : List (Vec SeenCell)) (key : Vec SeenCell) (x
   fresh_passed found =
       let seen : not (seen_in keys x) ≡ false = ap not (sym (seen_found keys key x is)) ∙ found in
       let go : (b : Bool) → not b ≡ false
-        → kept ++ cond b (fresh same_group (seen_in later) new) (x ∷ fresh same_group (seen_in later) new) ≡ all
-        → kept ++ fresh same_group (seen_in later) new ≡ all =
+      → kept ++ cond b (fresh same_group (seen_in later) new) (x ∷ fresh same_group (seen_in later) new) ≡ all
+      → kept ++ fresh same_group (seen_in later) new ≡ all =
       elim [ true ↦ λ e h. h | false ↦ λ e h. cc ] in
       go (seen_in keys x) seen step

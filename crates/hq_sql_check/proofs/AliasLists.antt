@@ -67,7 +67,7 @@ beside_end old first second alias s a b = rw (b, a) (simp append_assoc)
 
 -- an alias and those of its select, added in front of others
 pub beside : (old first second others : List (List ℕ)) (alias : List ℕ) (s : SelectTree) → first ≡ old ++ alias ∷ []
-  → second ≡ first ++ aliases_in s [] → second ++ others ≡ old ++ (alias ∷ aliases_in s others)
+    → second ≡ first ++ aliases_in s [] → second ++ others ≡ old ++ (alias ∷ aliases_in s others)
 beside old first second others alias s a b =
     let c = of_select s others in
     rw (b, a, c) (simp append_assoc)

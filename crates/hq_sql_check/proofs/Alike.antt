@@ -65,8 +65,8 @@ module _ (tables : List Table) (d e : List (List Row)) where
         let walked = flat_alike (joined joins one) (joined joins other) (joined_alike joins h_joins) (scopes_of from one scope) ∙ ap (flat_map (joined joins other)) (scopes_alike from h_from scope) in
         ap (λ xs. map (outputs outs []) (limited limit (offset_by offset (distinct_on distinct (sort (order_cmp keys) xs)))))
         (filter_alike (kept condition one) (kept condition other) (kept_alike condition h_filter)
-             (flat_map (joined joins one) (scopes_of from one scope))
-           ∙ ap (kept_items (kept condition other)) walked)
+        (flat_map (joined joins one) (scopes_of from one scope))
+        ∙ ap (kept_items (kept condition other)) walked)
     rows_alike (tree.fold out inner alias) h scope = ap (λ rs. ((out.name, value out.value (map (with_alias scope alias) rs) scope) ∷ []) ∷ []) (rows_alike inner h scope)
 
     scopes_alike : (f : FromTree) → Each Same (places_of_from f tables) → (scope : Scope) → scopes_of f one scope ≡ scopes_of f other scope
@@ -102,13 +102,13 @@ module _ (tables : List Table) (d e : List (List Row)) where
     all_alike tree.no_pred h scope = refl
     all_alike (tree.pred p ps) h scope =
         ap₂ and3 (truth_alike p (each_front Same (places_of_pred p tables) (places_of_preds ps tables) h) scope)
-          (all_alike ps (each_back Same (places_of_pred p tables) (places_of_preds ps tables) h) scope)
+        (all_alike ps (each_back Same (places_of_pred p tables) (places_of_preds ps tables) h) scope)
 
     any_alike : (ps : PredTrees) → Each Same (places_of_preds ps tables) → (scope : Scope) → any_true ps one scope ≡ any_true ps other scope
     any_alike tree.no_pred h scope = refl
     any_alike (tree.pred p ps) h scope =
         ap₂ or3 (truth_alike p (each_front Same (places_of_pred p tables) (places_of_preds ps tables) h) scope)
-          (any_alike ps (each_back Same (places_of_pred p tables) (places_of_preds ps tables) h) scope)
+        (any_alike ps (each_back Same (places_of_pred p tables) (places_of_preds ps tables) h) scope)
 
 -- the law
 pub means_alike : (s : SelectTree) (tables : List Table) → MeansAlike s tables

@@ -50,8 +50,8 @@ more [] xs front h = refl
 more (e ∷ es) xs front h =
     let parts = and_split (is_among front e) (list_all (is_among front) es) h in
     and_join (is_among (onto xs front) e) (list_all (is_among (onto xs front)) es)
-      (any_onto (same_expr e) xs front ∙ or_true (list_any (same_expr e) xs) (list_any (same_expr e) front) parts.0)
-      (more es xs front parts.1)
+    (any_onto (same_expr e) xs front ∙ or_true (list_any (same_expr e) xs) (list_any (same_expr e) front) parts.0)
+    (more es xs front parts.1)
 
 weaker : (a b : Bool) → (a ≡ true → b ≡ true) → (a || b) ≡ b
 weaker true b h = sym (h refl)
@@ -63,11 +63,11 @@ front_grows distinct front (k ∷ ks) =
     let later = front_grows distinct (k.value ∷ front) ks in
     let all = list_all (is_among front) distinct in
     let step : (b : Bool) → b ≡ is_among distinct k.value
-      → (all || (b && begin_with distinct (k.value ∷ front) ks))
-        ≡ list_all (is_among (onto (key_values (take (if b then suc (front_among distinct ks) else 0) (k ∷ ks))) front)) distinct =
+    → (all || (b && begin_with distinct (k.value ∷ front) ks))
+    ≡ list_all (is_among (onto (key_values (take (if b then suc (front_among distinct ks) else 0) (k ∷ ks))) front)) distinct =
     elim [
       | true ↦ λ e. ap (λ b. all || b) later
-        ∙ weaker all (list_all (is_among (onto (key_values (take (front_among distinct ks) ks)) (k.value ∷ front))) distinct)
+          ∙ weaker all (list_all (is_among (onto (key_values (take (front_among distinct ks) ks)) (k.value ∷ front))) distinct)
           (more distinct (key_values (take (suc (front_among distinct ks)) (k ∷ ks))) front)
       | false ↦ λ e. or_false all
     ] in
@@ -82,8 +82,8 @@ front_is distinct keys =
 -- the same, of the trees of the code
 pub begins : (distinct : List Expr) (keys : List Order)
     → begin_with (map expr_view distinct) [] (map order_view keys)
-      ≡ list_all (is_among (key_values (map order_view (take (front_among (map expr_view distinct) (map order_view keys)) keys))))
-        (map expr_view distinct)
+    ≡ list_all (is_among (key_values (map order_view (take (front_among (map expr_view distinct) (map order_view keys)) keys))))
+    (map expr_view distinct)
 begins distinct keys =
     front_is (map expr_view distinct) (map order_view keys)
     ∙ ap (λ front. list_all (is_among (key_values front)) (map expr_view distinct)) (take-map order_view (front_among (map expr_view distinct) (map order_view keys)) keys)

@@ -14,7 +14,7 @@ module _ (aliases outer : Aliases) (alias : List ℕ) (names : Names) (s : Selec
 
   -- where it has its types, the joins behind it tell what all do
   pub joins_typed : is_typed s tables (stacked aliases outer) ≡ true
-    → are_typed_joins rest tables (stacked (aliases ++ (alias, names) ∷ []) outer)
+      → are_typed_joins rest tables (stacked (aliases ++ (alias, names) ∷ []) outer)
       ≡ are_typed_joins (tree.join s alias rest) tables (stacked aliases outer)
   joins_typed typed = ap (are_typed_joins rest tables) beside ∙ rw typed refl
 

@@ -16,7 +16,7 @@ no_table = record { schema = []; name = []; columns = []; key = []; foreign = []
 
 -- the first place at which a test holds
 position_is : {A : Type 0} (p : A → Bool) (xs : List A) (i : ℕ) (d : A) → i < length xs → p (slice_index_or xs i d) ≡ true
-  → ((k : ℕ) → k < i → p (slice_index_or xs k d) ≡ false) → position p xs ≡ Some i
+    → ((k : ℕ) → k < i → p (slice_index_or xs k d) ≡ false) → position p xs ≡ Some i
 position_is p xs i d lt here before =
     rw (position_or_len_is p xs i d (omega arith) before (λ w. here), lt-ltb i (length xs) lt) refl
 
@@ -31,9 +31,9 @@ rest_is (rs ∷ d) t = refl
 -- the rows are alike where those of the first table of the name are
 alike_at : (tables : List Table) (d e : List (List Row)) (schema name : List ℕ)
     →
-      ((t : ℕ) → t < length tables → is_table schema name (slice_index_or tables t no_table) ≡ true
-         → ((k : ℕ) → k < t → is_table schema name (slice_index_or tables k no_table) ≡ false)
-         → slice_index_or d t [] ≡ slice_index_or e t [])
+    ((t : ℕ) → t < length tables → is_table schema name (slice_index_or tables t no_table) ≡ true
+    → ((k : ℕ) → k < t → is_table schema name (slice_index_or tables k no_table) ≡ false)
+    → slice_index_or d t [] ≡ slice_index_or e t [])
     → rows_named tables d schema name ≡ rows_named tables e schema name
 alike_at [] d e schema name same = refl
 alike_at (x ∷ xs) d e schema name same =

@@ -13,12 +13,12 @@ stacked_last (b ∷ aliases) outer a = stacked_last aliases (b ∷ outer) a
 
 -- of the first i aliases the last one stands in front
 pub last_front : (all : List Alias) (i : ℕ) (x : Alias) (outer : Aliases) → 0 < i → i ≤ length all → x ≡ get_or all (i - 1) x
-  → stacked (map alias_view (take i all)) outer ≡ alias_view x ∷ stacked (map alias_view (take (i - 1) all)) outer
+    → stacked (map alias_view (take i all)) outer ≡ alias_view x ∷ stacked (map alias_view (take (i - 1) all)) outer
 last_front all i x outer some within is =
     let one : i ≡ suc (i - 1) = omega arith in
     let below : i - 1 < length all = omega arith in
     let front : take i all ≡ take (i - 1) all ++ x ∷ [] = ap (λ n. take n all) one ∙ (take-suc all (i - 1) x below ∙ ap (λ y. take (i - 1) all ++ y ∷ []) (sym is)) in
     ap (λ xs. stacked (map alias_view xs) outer) front
-      ∙
-        (ap (λ xs. stacked xs outer) (map-append alias_view (take (i - 1) all) (x ∷ []))
-           ∙ stacked_last (map alias_view (take (i - 1) all)) outer (alias_view x))
+    ∙
+    (ap (λ xs. stacked xs outer) (map-append alias_view (take (i - 1) all) (x ∷ []))
+    ∙ stacked_last (map alias_view (take (i - 1) all)) outer (alias_view x))

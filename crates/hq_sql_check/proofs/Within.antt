@@ -25,7 +25,7 @@ module _ (tables : List Table) where
   named_within : (schema name : List ℕ) → Each Within (place_named tables schema name)
   named_within schema name =
       let go : (o : Option ℕ) → position (is_table schema name) tables ≡ o → Each Within (listed o) =
-          elim [ None ↦ λ e. tt | Some t ↦ λ e. ((position-Some (is_table schema name) tables t no_table e).0, tt) ] in
+      elim [ None ↦ λ e. tt | Some t ↦ λ e. ((position-Some (is_table schema name) tables t no_table e).0, tt) ] in
       go (position (is_table schema name) tables) refl
 
   mutual

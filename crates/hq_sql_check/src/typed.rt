@@ -210,10 +210,10 @@ fn is_pattern(alloc: Global, value: &Expr) -> Result<bool, Memory>
 #[inline(never)]
 fn is_like(alloc: Global, scope: &Scope<'_, '_>, left: &Expr, right: &Expr) -> Result<bool, Memory>
     ensures { IfOk result
-          (λ well. well
-             ≡
-               (is_compared (scope_view scope.now) (expr_view left.now) && is_text_kind (kind (scope_view scope.now) (expr_view left.now))
-                  && is_pattern (expr_view right.now))) }
+        (λ well. well
+        ≡
+        (is_compared (scope_view scope.now) (expr_view left.now) && is_text_kind (kind (scope_view scope.now) (expr_view left.now))
+        && is_pattern (expr_view right.now))) }
 {
     Ok(is_compared(alloc, scope, left)? && is_text(kind(scope, left)) && is_pattern(alloc, right)?)
 }

@@ -37,7 +37,7 @@ closed_append names (p ∷ ps) qs = ap (λ b. is_closed names p && b) (closed_ap
 
 -- closed conjuncts have at a row truths that depend on the row alone
 pub all_alone : (ps : List PredTree) (a : List ℕ) (w : World) (s : Scope) (row : NamedRow) → all_closed (a ∷ []) ps ≡ true
-  → all_kept ps w (with_alias s a row) ≡ all_kept ps w (with_alias nothing a row)
+    → all_kept ps w (with_alias s a row) ≡ all_kept ps w (with_alias nothing a row)
 all_alone [] a w s row e = refl
 all_alone (p ∷ ps) a w s row e =
     let k = and_parts (is_closed (a ∷ []) p) (all_closed (a ∷ []) ps) e in

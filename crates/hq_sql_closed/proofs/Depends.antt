@@ -90,7 +90,7 @@ some_alike condition world names alias (r ∷ rs) x y agree same =
 from_alike : (from : FromTree) (condition : FilterTree) (world : World) (names : List (List ℕ)) (x y : Scope) → AgreeAt names x y → is_simple from ≡ true
     → ((v w : Scope) → AgreeAt (alias_of from ∷ names) v w → kept condition world v ≡ kept condition world w)
     → has_items (filter (kept condition world) (flat_map (joined tree.no_join world) (scopes_of from world x)))
-      ≡ has_items (filter (kept condition world) (flat_map (joined tree.no_join world) (scopes_of from world y)))
+    ≡ has_items (filter (kept condition world) (flat_map (joined tree.no_join world) (scopes_of from world y)))
 from_alike (tree.table schema name alias) condition world names x y agree h same =
     let rs = rows_named world.tables world.database schema name in
     some_is condition world alias rs x ∙ some_alike condition world names alias rs x y agree same ∙ sym (some_is condition world alias rs y)
@@ -151,7 +151,7 @@ module _ (world : World) where
 
 -- a condition that mentions no alias but its own has at a row the truth that it has with nothing around
 pub own_alone : (world : World) (p : PredTree) (alias : List ℕ) (row : NamedRow) (scope : Scope) → is_closed (alias ∷ []) p ≡ true
-  → truth_at p world (with_alias scope alias row) ≡ truth_at p world (with_alias nothing alias row)
+    → truth_at p world (with_alias scope alias row) ≡ truth_at p world (with_alias nothing alias row)
 own_alone world p alias row scope h =
     let apart : AgreeAt [] scope nothing = λ other named. absurd (false≢true named) in
     truth_alike world p (alias ∷ []) (with_alias scope alias row) (with_alias nothing alias row) (agree_more [] alias row scope nothing apart) h

@@ -21,13 +21,13 @@ kept_more : (ps : List (Bor Pred)) (p : Bor Pred) (w : World) (s : Scope) → al
 kept_more ps p w s = ap (λ l. all_kept l w s) (map-append (λ q. pred_view q.now) ps (p ∷ [])) ∙ all_append (lent_views ps) (pred_view p.now ∷ []) w s
 
 closed_more : (names : List (List ℕ)) (ps : List (Bor Pred)) (p : Bor Pred)
-  → all_closed names (lent_views (ps ++ (p ∷ []))) ≡ (all_closed names (lent_views ps) && (is_closed names (pred_view p.now) && true))
+    → all_closed names (lent_views (ps ++ (p ∷ []))) ≡ (all_closed names (lent_views ps) && (is_closed names (pred_view p.now) && true))
 closed_more names ps p = ap (all_closed names) (map-append (λ q. pred_view q.now) ps (p ∷ [])) ∙ closed_append names (lent_views ps) (pred_view p.now ∷ [])
 
 weight_more : (ps : List (Bor Pred)) (p : Bor Pred) → lent_weight (ps ++ (p ∷ [])) ≡ lent_weight ps + pred_weight p.now
 weight_more ps p =
     let e : lent_weight (ps ++ (p ∷ [])) ≡ lent_weight ps + (pred_weight p.now + 0) =
-        ap total (map-append (λ q. pred_weight q.now) ps (p ∷ [])) ∙ total_append (map (λ q. pred_weight q.now) ps) (pred_weight p.now ∷ []) in
+    ap total (map-append (λ q. pred_weight q.now) ps (p ∷ [])) ∙ total_append (map (λ q. pred_weight q.now) ps) (pred_weight p.now ∷ []) in
     omega arith
 
 to_first : (b c d : Bool) → ((b && (d && true)) && c) ≡ ((b && c) && d)
@@ -44,12 +44,12 @@ to_second true false d = refl
 to_second false c d = refl
 
 pub split_closed : (names : List (List ℕ)) (p : Bor Pred) (c o c' : List (Bor Pred)) → is_closed names (pred_view p.now) ≡ true
-  → c' ≡ c ++ (p ∷ []) → IsSplit names (kept_one (pred_view p.now)) (pred_weight p.now) c o c' o
+    → c' ≡ c ++ (p ∷ []) → IsSplit names (kept_one (pred_view p.now)) (pred_weight p.now) c o c' o
 split_closed names p c o c' h e = record {
   same =
       λ w s. ap (λ l. all_kept (lent_views l) w s && all_kept (lent_views o) w s) e
-        ∙ ap (λ b. b && all_kept (lent_views o) w s) (kept_more c p w s)
-        ∙ to_first (all_kept (lent_views c) w s) (all_kept (lent_views o) w s) (kept_one (pred_view p.now) w s);
+      ∙ ap (λ b. b && all_kept (lent_views o) w s) (kept_more c p w s)
+      ∙ to_first (all_kept (lent_views c) w s) (all_kept (lent_views o) w s) (kept_one (pred_view p.now) w s);
   only = λ k. ap (λ l. all_closed names (lent_views l)) e ∙ closed_more names c p ∙ ap₂ (λ x y. x && (y && true)) k h;
   lighter = omega arith;
 }
@@ -58,8 +58,8 @@ pub split_open : (names : List (List ℕ)) (p : Bor Pred) (c o o' : List (Bor Pr
 split_open names p c o o' e = record {
   same =
       λ w s. ap (λ l. all_kept (lent_views c) w s && all_kept (lent_views l) w s) e
-        ∙ ap (λ b. all_kept (lent_views c) w s && b) (kept_more o p w s)
-        ∙ to_second (all_kept (lent_views c) w s) (all_kept (lent_views o) w s) (kept_one (pred_view p.now) w s);
+      ∙ ap (λ b. all_kept (lent_views c) w s && b) (kept_more o p w s)
+      ∙ to_second (all_kept (lent_views c) w s) (all_kept (lent_views o) w s) (kept_one (pred_view p.now) w s);
   only = λ k. k;
   lighter = let k = ap lent_weight e ∙ weight_more o p in omega arith;
 }
@@ -76,7 +76,7 @@ pub split_more : (names : List (List ℕ)) (ps qs : List PredTree) (p : PredTree
 split_more names ps qs p m n k c o c1 o1 c2 o2 x y e f = record {
   same = λ w s. y.same w s ∙ ap (λ b. b && kept_one p w s) (x.same w s) ∙ sym (ap (λ l. (all_kept (lent_views c) w s && all_kept (lent_views o) w s) && all_kept l w s) e
       ∙ ap (λ b. (all_kept (lent_views c) w s && all_kept (lent_views o) w s) && b) (all_append ps (p ∷ []) w s)
-        ∙ to_second (all_kept (lent_views c) w s && all_kept (lent_views o) w s) (all_kept ps w s) (kept_one p w s));
+      ∙ to_second (all_kept (lent_views c) w s && all_kept (lent_views o) w s) (all_kept ps w s) (kept_one p w s));
   only = λ h. y.only (x.only h);
   lighter = let a = x.lighter in let b = y.lighter in omega arith;
 }

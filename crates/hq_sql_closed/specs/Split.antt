@@ -17,7 +17,7 @@ kept_all ps world scope = all_kept ps world scope
 -- weight at most.
 pub record IsSplit (names : List (List ℕ)) (keeps : World → Scope → Bool) (weight : ℕ) (closed open_ones closed_then open_then : List (Bor Pred)) : Type 0 where
   pub same : (world : World) (scope : Scope)
-    → (all_kept (lent_views closed_then) world scope && all_kept (lent_views open_then) world scope)
+      → (all_kept (lent_views closed_then) world scope && all_kept (lent_views open_then) world scope)
       ≡ ((all_kept (lent_views closed) world scope && all_kept (lent_views open_ones) world scope) && keeps world scope)
   pub only : all_closed names (lent_views closed) ≡ true → all_closed names (lent_views closed_then) ≡ true
   pub lighter : lent_weight open_then ≤ lent_weight open_ones + weight

@@ -41,8 +41,8 @@ fn split_all<'d>(
     rest: &mut Vec<&'d Pred>,
 ) -> Result<(), Memory>
     ensures { OnOk result
-          (IsSplit (names_view names.now) (kept_all (map pred_view preds.now.items)) (total (map pred_weight preds.now.items))
-             closed.old.items rest.old.items closed.new.items rest.new.items) }
+        (IsSplit (names_view names.now) (kept_all (map pred_view preds.now.items)) (total (map pred_weight preds.now.items))
+        closed.old.items rest.old.items closed.new.items rest.new.items) }
 {
     for pred in preds {
         split(pred, names, closed, rest)?;

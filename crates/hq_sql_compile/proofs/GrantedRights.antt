@@ -55,7 +55,7 @@ module _ (t : ℕ) where
 
   -- one of the table itself is taken, where something is granted
   taken : (X : Option Table) (P : Option Permission) (b : BoundTree) (rest : List GrantedTree) (o : Option BoundTree)
-    → (b.table == t) ≡ true → first rest ≡ At X P o → first (option_list (Under X P b) ++ rest) ≡ Under X P b
+      → (b.table == t) ≡ true → first rest ≡ At X P o → first (option_list (Under X P b) ++ rest) ≡ Under X P b
   taken None P b rest o e later = later ∙ no_table_none P o
   taken (Some x) None b rest o e later = later ∙ no_permission_none x o
   taken (Some x) (Some p) b rest o e later = ap (λ c. cond c (Some (granted_under b p)) (first rest)) e

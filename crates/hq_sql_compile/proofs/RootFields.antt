@@ -22,7 +22,7 @@ module _ (s : Schema) (g : Rights) (root : ℕ) where
   root_numbers k = fields_numbers (table_fields (fields_view (k ∷ []))) s g root
 
   pub numbers_step : (k : KeyedAskField) (ks : List KeyedAskField)
-    → fields_numbers (table_fields (fields_view (k ∷ ks))) s g root
+      → fields_numbers (table_fields (fields_view (k ∷ ks))) s g root
       ≡ root_numbers k + fields_numbers (table_fields (fields_view ks)) s g root
   numbers_step k ks =
       let key : List ℕ = (keyed_field_view k).0 in
@@ -33,9 +33,9 @@ module _ (s : Schema) (g : Rights) (root : ℕ) where
       by (is_table_field f)
 
   pub values_step : (k : KeyedAskField) (ks : List KeyedAskField) (n : ℕ)
-    → values_at (table_fields (fields_view (k ∷ ks))) s g root 0 n
+      → values_at (table_fields (fields_view (k ∷ ks))) s g root 0 n
       ≡ values_at (table_fields (fields_view (k ∷ []))) s g root 0 n
-        ++ values_at (table_fields (fields_view ks)) s g root 0 (n + root_numbers k)
+      ++ values_at (table_fields (fields_view ks)) s g root 0 (n + root_numbers k)
   values_step k ks n =
       let key : List ℕ = (keyed_field_view k).0 in
       let f : FieldTree = (keyed_field_view k).1 in
@@ -50,9 +50,9 @@ module _ (s : Schema) (g : Rights) (root : ℕ) where
       by (is_table_field f)
 
   pub joins_step : (k : KeyedAskField) (ks : List KeyedAskField) (n : ℕ)
-    → fields_joins (table_fields (fields_view (k ∷ ks))) s g root 0 n
+      → fields_joins (table_fields (fields_view (k ∷ ks))) s g root 0 n
       ≡ fields_joins (table_fields (fields_view (k ∷ []))) s g root 0 n
-        ++ fields_joins (table_fields (fields_view ks)) s g root 0 (n + root_numbers k)
+      ++ fields_joins (table_fields (fields_view ks)) s g root 0 (n + root_numbers k)
   joins_step k ks n =
       let key : List ℕ = (keyed_field_view k).0 in
       let f : FieldTree = (keyed_field_view k).1 in

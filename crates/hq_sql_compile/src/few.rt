@@ -15,8 +15,8 @@ use hq_ask_tree::{
     AggFields, AggPart, AggParts, Args, AskField, AskFields, KeyedAggPart, KeyedAskField,
 };
 use hq_base::Memory;
-use hq_compile_tables::Context;
 use hq_compile_lists::needed;
+use hq_compile_tables::Context;
 use hq_terms::{RelId, TableId};
 use std::alloc::Global;
 

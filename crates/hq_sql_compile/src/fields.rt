@@ -15,14 +15,12 @@ ghost use Rattle.hq_sql_compile.specs.Rows.{fields_view, parts_view, values_at, 
 
 use hq_ask_tree::{AggFields, AggPart, AggParts, AskField, AskFields, KeyedAggPart, KeyedAskField};
 use hq_base::{Memory, Txt};
-use hq_compile_tables::{Context, take_number};
 use hq_compile_lists::{
     FirstRow, ListStart, Row, empty_row, key_row, list_body, list_select, list_table, list_tie,
-    no_row, object, one_row, remote_row,
+    no_row, object, one_row, remote_row, summary_select,
 };
 use hq_compile_predicates::row_members;
-use hq_compile_lists::summary_select;
-use hq_compile_tables::{first_select, one_join, own_column, value_column};
+use hq_compile_tables::{Context, first_select, one_join, own_column, take_number, value_column};
 use hq_sql_tree::{Expr, ExprPair, ExprPairList, Join, JoinList};
 use hq_terms::TableId;
 use std::alloc::Global;

@@ -46,7 +46,7 @@ learned_is p w rows alias c m k x e =
 -- what is known over the rows of a table is known of it in each scope
 pub of_table : (w : World) (from : FromTree) (schema name alias : List ℕ) (given rows : List NamedRow) (a : List ℕ) (f : FilterTree)
     (k : Known)
-  → from ≡ tree.table schema name alias → rows ≡ rows_given from w given → a ≡ alias_in from → Knows w rows a f k
+    → from ≡ tree.table schema name alias → rows ≡ rows_given from w given → a ≡ alias_in from → Knows w rows a f k
     → (made : List NamedRow) → Knows w (rows_given from w made) (alias_in from) f k
 of_table w from schema name alias given rows a f k e r b h made =
     let same : rows ≡ rows_given from w made = r ∙ ap (λ x. rows_given x w given) e ∙ sym (ap (λ x. rows_given x w made) e) in
@@ -55,7 +55,7 @@ of_table w from schema name alias given rows a f k e r b h made =
 -- ---- truths, row by row
 
 narrowed_more : (bs ts : List Bool) (i : ℕ) → i < length bs → i < length ts
-  → narrowed (take i bs) (take i ts) ++ ((get_or bs i false && get_or ts i false) ∷ []) ≡ narrowed (take (suc i) bs) (take (suc i) ts)
+    → narrowed (take i bs) (take i ts) ++ ((get_or bs i false && get_or ts i false) ∷ []) ≡ narrowed (take (suc i) bs) (take (suc i) ts)
 narrowed_more [] ts i h k = absurd (omega arith)
 narrowed_more (b ∷ bs) [] i h k = absurd (omega arith)
 narrowed_more (b ∷ bs) (t ∷ ts) zero h k = refl
@@ -63,8 +63,8 @@ narrowed_more (b ∷ bs) (t ∷ ts) (suc i) h k = ap (λ l. (b && t) ∷ l) (nar
 
 -- one more row
 pub narrowed_step : (f : NamedRow → Bool) (rows : List NamedRow) (before truths : List Bool) (i : ℕ) (b : Bool)
-  → length before ≡ length rows → i < length before → truths ≡ narrowed (take i before) (take i (map f rows))
-  → b ≡ (get_or before i false && f (get_or rows i []))
+    → length before ≡ length rows → i < length before → truths ≡ narrowed (take i before) (take i (map f rows))
+    → b ≡ (get_or before i false && f (get_or rows i []))
     → truths ++ (b ∷ []) ≡ narrowed (take (i + 1) before) (take (i + 1) (map f rows))
 narrowed_step f rows before truths i b long lt h k =
     let within : i < length rows = omega (arith, long, lt) in
@@ -76,7 +76,7 @@ narrowed_step f rows before truths i b long lt h k =
 
 -- all rows
 pub narrowed_end : (f : NamedRow → Bool) (rows : List NamedRow) (before : List Bool) (i : ℕ) → length before ≡ length rows
-  → length before ≤ i → narrowed (take i before) (take i (map f rows)) ≡ narrowed before (map f rows)
+    → length before ≤ i → narrowed (take i before) (take i (map f rows)) ≡ narrowed before (map f rows)
 narrowed_end f rows before i long le =
     let same = length_map f rows in
     let past : length (map f rows) ≤ i = omega (arith, long, le, same) in
@@ -97,12 +97,12 @@ and_true false = refl
 one_kept : (ps : List (Bor Pred)) (p : Bor Pred) (w : World) (n : Scope) → all_kept (lent_views (ps ++ (p ∷ []))) w n ≡ (all_kept (lent_views ps) w n && kept_one (pred_view p.now) w n)
 one_kept ps p w n =
     ap (λ l. all_kept l w n) (map-append (λ q. pred_view q.now) ps (p ∷ [])) ∙ all_append (lent_views ps) (pred_view p.now ∷ []) w n
-      ∙ ap (λ b. all_kept (lent_views ps) w n && b) (and_true (kept_one (pred_view p.now) w n))
+    ∙ ap (λ b. all_kept (lent_views ps) w n && b) (and_true (kept_one (pred_view p.now) w n))
 
 -- one more conjunct
 pub truths_step : (closed : List (Bor Pred)) (i : ℕ) (p : Bor Pred) (w : World) (alias : List ℕ) (rows : List NamedRow) (before truths : List Bool) → i < length closed → p ≡ get_or closed i p
     → before ≡ map (λ row. all_kept (lent_views (take i closed)) w (with_alias nothing alias row)) rows
-      → truths ≡ narrowed before (map (λ row. kept_one (pred_view p.now) w (with_alias nothing alias row)) rows)
+    → truths ≡ narrowed before (map (λ row. kept_one (pred_view p.now) w (with_alias nothing alias row)) rows)
     → truths ≡ map (λ row. all_kept (lent_views (take (i + 1) closed)) w (with_alias nothing alias row)) rows
 truths_step closed i p w alias rows before truths lt is h k =
     let f : NamedRow → Bool = λ row. all_kept (lent_views (take i closed)) w (with_alias nothing alias row) in
@@ -123,7 +123,7 @@ truths_none n rows e = ap (λ k. replicate k true) e ∙ all_yes rows
 -- an EXISTS over a table without pages
 pub table_has : (D : List ExprTree) (O : List OutTree) (F : FromTree) (J : JoinTrees) (C : FilterTree) (K : List OrderTree) (w : World)
     (n : Scope) (schema name alias : List ℕ)
-  → F ≡ tree.table schema name alias
+    → F ≡ tree.table schema name alias
     → keeps_one (rows_given F w []) (alias_in F) J C w n ≡ has_rows (rows_of (tree.rows D O F J C K None None) w n)
 table_has D O F J C K w n schema name alias e = exists_is D O F J C K w n [] (rows_given F w []) (alias_in F) (sym (ap (λ f. made_rows f w n) e)) refl refl
 

@@ -51,11 +51,11 @@ fn finds<'s, 'd>(
     requires known { IfSome known (λ k. IsKnown (world_of world.now) (source_view source) alias.now (joins_of (map join_view joins.now)) (filter_view filter.now) k.now) }
     requires lighter { IfSome known (λ k. 1 + lent_weight k.now.rest.items ≤ filter_weight filter.now) }
     ensures { IfOk result
-          (λ b. b
-             ≡
-               (before
-                  && keeps_one (source_view source.entry) alias.now (joins_of (map join_view joins.now)) (filter_view filter.now)
-                    (world_of world.now) (names_of scope.now world.now))) }
+        (λ b. b
+        ≡
+        (before
+        && keeps_one (source_view source.entry) alias.now (joins_of (map join_view joins.now)) (filter_view filter.now)
+        (world_of world.now) (names_of scope.now world.now))) }
 {
     if !before {
         return Ok(false);
@@ -84,10 +84,10 @@ fn narrowed_each<'s, 'd>(
 ) -> Result<Vec<bool>, Memory>
     requires { length before.now ≡ length (source_view source) }
     ensures { IfOk result
-          (λ truths. truths.items
-             ≡ narrowed before.now
-               (map (λ row. kept_one (pred_view pred.now) (world_of world.now) (with_alias nothing alias.now row))
-                  (source_view source.entry))) }
+        (λ truths. truths.items
+        ≡ narrowed before.now
+        (map (λ row. kept_one (pred_view pred.now) (world_of world.now) (with_alias nothing alias.now row))
+        (source_view source.entry))) }
 {
     let mut truths = Vec::with_capacity(alloc, before.len())?;
     for position in 0..before.len() {
@@ -114,12 +114,12 @@ fn narrowed_over<'s, 'd>(
 ) -> Result<Vec<bool>, Memory>
     requires { length before.now ≡ length (source_view source) }
     ensures { IfOk result
-          (λ truths. truths.items
-             ≡ narrowed before.now
-               (map
-                  (λ row. keeps_one (rows_given (from_view from.now) (world_of world.now) []) (alias_in (from_view from.now))
-                     (joins_of (map join_view joins.now)) (filter_view filter.now) (world_of world.now) (with_alias nothing alias.now row))
-                  (source_view source.entry))) }
+        (λ truths. truths.items
+        ≡ narrowed before.now
+        (map
+        (λ row. keeps_one (rows_given (from_view from.now) (world_of world.now) []) (alias_in (from_view from.now))
+        (joins_of (map join_view joins.now)) (filter_view filter.now) (world_of world.now) (with_alias nothing alias.now row))
+        (source_view source.entry))) }
 {
     let inner = source_of(world, from, &[]);
     let known = known_of(world, from, joins, filter);
@@ -157,11 +157,11 @@ fn narrowed_by<'s, 'd>(
 ) -> Result<Option<Vec<bool>>, Memory>
     requires { length before.now ≡ length (source_view source) }
     ensures { IfOk result
-          (λ found. IfSome found
-             (λ truths. truths.items
-                ≡ narrowed before.now
-                  (map (λ row. has_rows (rows_of (select_view select.now) (world_of world.now) (with_alias nothing alias.now row)))
-                     (source_view source.entry)))) }
+        (λ found. IfSome found
+        (λ truths. truths.items
+        ≡ narrowed before.now
+        (map (λ row. has_rows (rows_of (select_view select.now) (world_of world.now) (with_alias nothing alias.now row)))
+        (source_view source.entry)))) }
 {
     let Select::Rows {
         from,
@@ -193,10 +193,10 @@ fn narrowed<'s, 'd>(
 ) -> Result<Vec<bool>, Memory>
     requires { length before.now ≡ length (source_view source) }
     ensures { IfOk result
-          (λ truths. truths.items
-             ≡ narrowed before.now
-               (map (λ row. kept_one (pred_view pred.now) (world_of world.now) (with_alias nothing alias.now row))
-                  (source_view source.entry))) }
+        (λ truths. truths.items
+        ≡ narrowed before.now
+        (map (λ row. kept_one (pred_view pred.now) (world_of world.now) (with_alias nothing alias.now row))
+        (source_view source.entry))) }
 {
     if let Pred::Exists(select) = pred {
         if let Some(truths) = narrowed_by(alloc, before, source, alias, select, world)? {

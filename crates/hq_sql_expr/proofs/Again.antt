@@ -83,10 +83,14 @@ unfolding column_at
 column_again a n c rest is_a is_n ends =
     let last = collate_text c ++ rest in
     let regrouped : expr_text (tree.column a n c) ++ rest ≡ name_text a ++ (word_text word.Dot ++ (name_text n ++ last)) = simp append_assoc in
-    rw
-      (regrouped, quoted_again 34 a (word_text word.Dot ++ (name_text n ++ last)) is_a (dot_free (name_text n ++ last)),
-         after_again word.Dot (name_text n ++ last), quoted_again 34 n last is_n (collate_free c rest ends.0), collate_again c rest ends.1)
-      refl
+    rw (
+      regrouped,
+      quoted_again 34 a (word_text word.Dot ++ (name_text n ++ last)) is_a (dot_free (name_text n ++ last)),
+      after_again word.Dot (name_text n ++ last),
+      quoted_again 34 n last is_n (collate_free c rest ends.0),
+      collate_again c rest ends.1,
+    )
+    refl
 
 text_free : (rest : List ℕ) → Free 39 (word_text word.AsText ++ rest)
 unfolding word_text
@@ -107,11 +111,14 @@ text_literal_again t rest is = rw (append_assoc (quoted 39 t) (word_text word.As
 int_literal_again : (n : _) (rest : List ℕ) → is_bigint n ≡ true → literal_at (int_text n ++ rest) ≡ Some (tree.int n, rest)
 unfolding literal_at
 int_literal_again n rest is =
-    rw
-      (append_assoc (quoted 39 (signed_decimal n)) (word_text word.AsBigint) rest,
-         quoted_again 39 (signed_decimal n) (word_text word.AsBigint ++ rest) (int_is_text n is) (bigint_free rest), bigint_no_text rest,
-         after_again word.AsBigint rest, int_again n is)
-      refl
+    rw (
+      append_assoc (quoted 39 (signed_decimal n)) (word_text word.AsBigint) rest,
+      quoted_again 39 (signed_decimal n) (word_text word.AsBigint ++ rest) (int_is_text n is) (bigint_free rest),
+      bigint_no_text rest,
+      after_again word.AsBigint rest,
+      int_again n is,
+    )
+    refl
 
 direction_again : (desc nulls_first : Bool) (rest : List ℕ) → direction_at (word_text (direction_word desc nulls_first) ++ rest) ≡ Some ((desc, nulls_first), rest)
 unfolding direction_at after word_text
@@ -236,8 +243,8 @@ module _ (d : ℕ) (expr : Reader ExprTree) (expr_again : Again d expr) where
   pair_again p rest good ends =
       let later = word_text word.Comma ++ (expr_text p.value ++ rest) in
       let regrouped : pair_text p ++ rest ≡ literal_text p.name ++ later =
-          append_assoc (literal_text p.name) (word_text word.Comma ++ expr_text p.value) rest
-            ∙ ap (λ c. literal_text p.name ++ c) (append_assoc (word_text word.Comma) (expr_text p.value) rest) in
+      append_assoc (literal_text p.name) (word_text word.Comma ++ expr_text p.value) rest
+      ∙ ap (λ c. literal_text p.name ++ c) (append_assoc (word_text word.Comma) (expr_text p.value) rest) in
       rw (regrouped, text_again p.name later good.0, after_again word.Comma (expr_text p.value ++ rest), expr_again p.value rest good.1 ends) refl
 
   text_no_close : (t rest : List ℕ) → after word.Close (literal_text t ++ rest) ≡ None
@@ -245,7 +252,7 @@ module _ (d : ℕ) (expr : Reader ExprTree) (expr_again : Again d expr) where
   text_no_close t rest = refl
 
   pair_list_again : (ps : List PairTree) (rest : List ℕ) → AllByRecursion (GoodPair d) ps
-    → pairs_with expr ((separated word.Comma (map pair_text ps) ++ word_text word.Close) ++ rest) ≡ Some (tree.object (pairs_of ps), rest)
+      → pairs_with expr ((separated word.Comma (map pair_text ps) ++ word_text word.Close) ++ rest) ≡ Some (tree.object (pairs_of ps), rest)
   unfolding pairs_with
   pair_list_again [] rest good = rw (after_again word.Close rest) refl
   pair_list_again (p ∷ ps) rest good =
@@ -254,15 +261,15 @@ module _ (d : ℕ) (expr : Reader ExprTree) (expr_again : Again d expr) where
       let regrouped : (listed ++ word_text word.Close) ++ rest ≡ listed ++ end = append_assoc listed (word_text word.Close) rest in
       let begins : listed ++ end ≡ literal_text p.name ++ ((word_text word.Comma ++ expr_text p.value) ++ (each_after word.Comma (map pair_text ps) ++ end)) = simp append_assoc in
       let no_close : after word.Close (listed ++ end) ≡ None =
-          ap (after word.Close) begins
-            ∙ text_no_close p.name ((word_text word.Comma ++ expr_text p.value) ++ (each_after word.Comma (map pair_text ps) ++ end)) in
+      ap (after word.Close) begins
+      ∙ text_no_close p.name ((word_text word.Comma ++ expr_text p.value) ++ (each_after word.Comma (map pair_text ps) ++ end)) in
       let read = all_many_again (pair_with expr) word.Comma pair_text (GoodPair d) Ends pair_again comma_ends comma_some p ps end good.0 good.1 (close_ends rest) (close_no_comma rest) in
       rw (regrouped, no_close, read, after_again word.Close rest) refl
 
   pairs_again : (ps : PairTrees) (rest : List ℕ) → FitsPairs ps d → pairs_with expr ((separated word.Comma (pair_texts ps) ++ word_text word.Close) ++ rest) ≡ Some (tree.object ps, rest)
   pairs_again ps rest fits =
       ap (λ ts. pairs_with expr ((separated word.Comma ts ++ word_text word.Close) ++ rest)) (pair_texts-list ps)
-        ∙ pair_list_again (pair_list ps) rest (good_pairs d ps fits) ∙ ap (λ qs. Some (tree.object qs, rest)) (pairs_of-pair_list ps)
+      ∙ pair_list_again (pair_list ps) rest (good_pairs d ps fits) ∙ ap (λ qs. Some (tree.object qs, rest)) (pairs_of-pair_list ps)
 
   pub argument_again : (e : ExprTree) (rest : List ℕ) → FitsExpr e d → argument_with expr ((expr_text e ++ word_text word.Close) ++ rest) ≡ Some (e, rest)
   unfolding argument_with
@@ -271,37 +278,41 @@ module _ (d : ℕ) (expr : Reader ExprTree) (expr_again : Again d expr) where
   order_again : (o : OrderTree) (rest : List ℕ) → GoodOrder d o → Unit {0} → order_with expr (order_text o ++ rest) ≡ Some (o, rest)
   unfolding order_with
   order_again o rest good u =
-      rw
-        (append_assoc (expr_text o.value) (word_text (direction_word o.desc o.nulls_first)) rest,
-           expr_again o.value (word_text (direction_word o.desc o.nulls_first) ++ rest) good (direction_ends o.desc o.nulls_first rest),
-           direction_again o.desc o.nulls_first rest)
-        refl
+      rw (
+        append_assoc (expr_text o.value) (word_text (direction_word o.desc o.nulls_first)) rest,
+        expr_again o.value (word_text (direction_word o.desc o.nulls_first) ++ rest) good (direction_ends o.desc o.nulls_first rest),
+        direction_again o.desc o.nulls_first rest,
+      )
+      refl
 
   pub keys_again : (o : OrderTree) (os : List OrderTree) (rest : List ℕ) → GoodOrder d o → AllByRecursion (GoodOrder d) os
-    → after word.Comma rest ≡ None
-    → all_many (order_with expr) word.Comma (separated word.Comma (map order_text (o ∷ os)) ++ rest) ≡ Some (o ∷ os, rest)
+      → after word.Comma rest ≡ None
+      → all_many (order_with expr) word.Comma (separated word.Comma (map order_text (o ∷ os)) ++ rest) ≡ Some (o ∷ os, rest)
   keys_again o os rest good all none = all_many_again (order_with expr) word.Comma order_text (GoodOrder d) (λ rest. Unit {0}) order_again (λ rest. tt) comma_some o os rest good all tt none
 
   ordered_by : (e : ExprTree) (o : OrderTree) (os : List OrderTree) (rest : List ℕ) → FitsExpr e d → GoodOrder d o → AllByRecursion (GoodOrder d) os
       → ordered_with expr
-          ((expr_text e ++ (word_text word.OrderBy ++ (separated word.Comma (map order_text (o ∷ os)) ++ word_text word.OrEmptyArray)))
-             ++ rest)
-        ≡ Some (tree.aggregate (tree.json_agg e (orders_of (o ∷ os))), rest)
+      ((expr_text e ++ (word_text word.OrderBy ++ (separated word.Comma (map order_text (o ∷ os)) ++ word_text word.OrEmptyArray)))
+      ++ rest)
+      ≡ Some (tree.aggregate (tree.json_agg e (orders_of (o ∷ os))), rest)
   unfolding ordered_with
   ordered_by e o os rest fits good all =
       let listed = separated word.Comma (map order_text (o ∷ os)) in
       let end = word_text word.OrEmptyArray ++ rest in
       let regrouped : (expr_text e ++ (word_text word.OrderBy ++ (listed ++ word_text word.OrEmptyArray))) ++ rest ≡ expr_text e ++ (word_text word.OrderBy ++ (listed ++ end)) = simp append_assoc in
-      rw
-        (regrouped, expr_again e (word_text word.OrderBy ++ (listed ++ end)) fits (order_by_ends (listed ++ end)),
-           after_again word.OrderBy (listed ++ end), keys_again o os end good all (or_empty_no_comma rest),
-           after_again word.OrEmptyArray rest)
-        refl
+      rw (
+        regrouped,
+        expr_again e (word_text word.OrderBy ++ (listed ++ end)) fits (order_by_ends (listed ++ end)),
+        after_again word.OrderBy (listed ++ end),
+        keys_again o os end good all (or_empty_no_comma rest),
+        after_again word.OrEmptyArray rest,
+      )
+      refl
 
   ordered_again : (e : ExprTree) (os : OrderTrees) (rest : List ℕ) → AtLeastOne os → FitsExpr e d → FitsOrders os d
       → ordered_with expr
-          ((expr_text e ++ (word_text word.OrderBy ++ (separated word.Comma (order_texts os) ++ word_text word.OrEmptyArray))) ++ rest)
-        ≡ Some (tree.aggregate (tree.json_agg e os), rest)
+      ((expr_text e ++ (word_text word.OrderBy ++ (separated word.Comma (order_texts os) ++ word_text word.OrEmptyArray))) ++ rest)
+      ≡ Some (tree.aggregate (tree.json_agg e os), rest)
   ordered_again e tree.no_order rest some fits all = absurd some
   ordered_again e (tree.order f desc nulls_first os) rest some fits all =
       let all_os = tree.order f desc nulls_first os in
@@ -341,8 +352,8 @@ module _ (d : ℕ) (expr ordered : Reader ExprTree) (expr_again : Again d expr) 
   agg_again (tree.max e) rest fits = headed inner head.Max (expr_text e ++ word_text word.Close) rest tt ∙ rw (argument_again d expr expr_again e rest fits) refl
   agg_again (tree.json_agg e os) rest fits =
       headed inner head.JsonAgg
-          (expr_text e ++ (word_text word.OrderBy ++ (separated word.Comma (order_texts os) ++ word_text word.OrEmptyArray))) rest tt
-        ∙ ordered_again e os rest fits
+      (expr_text e ++ (word_text word.OrderBy ++ (separated word.Comma (order_texts os) ++ word_text word.OrEmptyArray))) rest tt
+      ∙ ordered_again e os rest fits
 
   deeper : Again (suc d) (expr_with inner)
   unfolding inside_with
@@ -371,19 +382,19 @@ unfolding out_with
 out_again d o rest good free =
     let later = word_text word.As ++ (name_text o.name ++ rest) in
     let regrouped : out_text o ++ rest ≡ expr_text o.value ++ later =
-        append_assoc (expr_text o.value) (word_text word.As ++ name_text o.name) rest
-          ∙ ap (λ c. expr_text o.value ++ c) (append_assoc (word_text word.As) (name_text o.name) rest) in
+    append_assoc (expr_text o.value) (word_text word.As ++ name_text o.name) rest
+    ∙ ap (λ c. expr_text o.value ++ c) (append_assoc (word_text word.As) (name_text o.name) rest) in
     rw (regrouped, expr_again d o.value later good.0 (as_ends (name_text o.name ++ rest)), after_again word.As (name_text o.name ++ rest), quoted_again 34 o.name rest good.1 free) refl
 
 comma_free : (rest : List ℕ) → Free 34 (word_text word.Comma ++ rest)
 comma_free rest = (comma_ends rest).0
 
 pub outs_again : (d : ℕ) (o : OutTree) (os : List OutTree) (rest : List ℕ) → GoodOut d o → AllByRecursion (GoodOut d) os → Free 34 rest
-  → after word.Comma rest ≡ None
-  → all_many (out_with (expr_at d)) word.Comma (separated word.Comma (map out_text (o ∷ os)) ++ rest) ≡ Some (o ∷ os, rest)
+    → after word.Comma rest ≡ None
+    → all_many (out_with (expr_at d)) word.Comma (separated word.Comma (map out_text (o ∷ os)) ++ rest) ≡ Some (o ∷ os, rest)
 outs_again d o os rest good all free none = all_many_again (out_with (expr_at d)) word.Comma out_text (GoodOut d) (Free 34) (out_again d) comma_free comma_some o os rest good all free none
 
 pub exprs_again : (d : ℕ) (e : ExprTree) (es : List ExprTree) (rest : List ℕ) → FitsExpr e d → AllByRecursion (λ e. FitsExpr e d) es
-  → Ends rest → after word.Comma rest ≡ None
-  → all_many (expr_at d) word.Comma (separated word.Comma (map expr_text (e ∷ es)) ++ rest) ≡ Some (e ∷ es, rest)
+    → Ends rest → after word.Comma rest ≡ None
+    → all_many (expr_at d) word.Comma (separated word.Comma (map expr_text (e ∷ es)) ++ rest) ≡ Some (e ∷ es, rest)
 exprs_again d e es rest good all ends none = all_many_again (expr_at d) word.Comma expr_text (λ e. FitsExpr e d) Ends (expr_again d) comma_ends comma_some e es rest good all ends none

@@ -20,7 +20,7 @@ ordered_is (suc d) = refl
 pub inside_below_is : (h : Head) (d : ℕ) (bytes : List ℕ) → 0 < d → below (inside_at h) d bytes ≡ inside_with (expr_with (λ g. below (inside_at g) (d - 1))) (below listed_at (d - 1)) h bytes
 inside_below_is h d bytes lt =
     below_is (inside_at h) d bytes lt ∙ ap (λ e. inside_with e (ordered_at (d - 1)) h bytes) (expr_is (d - 1))
-      ∙ ap (λ o. inside_with (expr_with (λ g. below (inside_at g) (d - 1))) o h bytes) (ordered_is (d - 1))
+    ∙ ap (λ o. inside_with (expr_with (λ g. below (inside_at g) (d - 1))) o h bytes) (ordered_is (d - 1))
 
 pub listed_below_is : (d : ℕ) (bytes : List ℕ) → 0 < d → below listed_at d bytes ≡ ordered_with (expr_with (λ g. below (inside_at g) (d - 1))) bytes
 listed_below_is d bytes lt = below_is listed_at d bytes lt ∙ ap (λ e. ordered_with e bytes) (expr_is (d - 1))

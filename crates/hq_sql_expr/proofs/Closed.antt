@@ -34,8 +34,8 @@ closed_takes : (close : Word) (d : ℕ) → Sound (closed_exprs close d) (Spelle
 unfolding closed_exprs
 closed_takes close d =
     sound_next (all_many (expr_at d) word.Comma) (λ es bytes. after close bytes >>= λ rest. Some (es, rest))
-      (list_text (expr_at d) word.Comma expr_text (λ e. FitsExpr e d)) (AllGood (λ e. FitsExpr e d))
-      (Spelled (closed_list_text close) (AllGood (λ e. FitsExpr e d))) (exprs_take d)
+    (list_text (expr_at d) word.Comma expr_text (λ e. FitsExpr e d)) (AllGood (λ e. FitsExpr e d))
+    (Spelled (closed_list_text close) (AllGood (λ e. FitsExpr e d))) (exprs_take d)
     (λ es good. sound_end close es (λ b x. Spelled (closed_list_text close) (AllGood (λ e. FitsExpr e d)) (separated word.Comma (map expr_text es) ++ b) x) (refl, good))
 
 pub closed_exprs_take : (close : Word) (d : ℕ) → Sound (below (closed_exprs close) d) (Spelled (closed_list_text close) (FitsClosed d))
@@ -60,7 +60,7 @@ unfolding word_text after
 close_distinct_closes rest = ((refl, refl), refl)
 
 closed_again : (closing : Word) (d : ℕ) (es : List ExprTree) (rest : List ℕ) → Closes closing → AllGood (λ e. FitsExpr e d) es
-  → closed_exprs closing d (closed_list_text closing es ++ rest) ≡ Some (es, rest)
+    → closed_exprs closing d (closed_list_text closing es ++ rest) ≡ Some (es, rest)
 unfolding closed_exprs
 closed_again closing d [] rest closes good = absurd good
 closed_again closing d (e ∷ es) rest closes good =
@@ -70,7 +70,7 @@ closed_again closing d (e ∷ es) rest closes good =
     rw (append_assoc listed (word_text closing) rest, exprs_again d e es end good.0 good.1 k.0 k.1, after_again closing rest) refl
 
 pub closed_exprs_again : (closing : Word) (d : ℕ) (es : List ExprTree) (rest : List ℕ) → Closes closing → FitsClosed d es
-  → below (closed_exprs closing) d (closed_list_text closing es ++ rest) ≡ Some (es, rest)
+    → below (closed_exprs closing) d (closed_list_text closing es ++ rest) ≡ Some (es, rest)
 closed_exprs_again closing zero es rest closes fits = absurd fits
 closed_exprs_again closing (suc d) es rest closes fits = closed_again closing d es rest closes fits
 
@@ -98,7 +98,7 @@ fits_closed (suc d) [] some form depth fits = absurd cc
 fits_closed (suc d) (e ∷ es) some form depth fits = fits_exprs d (e ∷ es) form (omega arith) fits
 
 pub closed_told : (d : ℕ) (es : List ExprTree) → FitsClosed d es
-  → (nat_le 1 (length es) ≡ true) × (list_all is_expr es ≡ true) × (1 + greatest (map expr_depth es) ≤ d) × (list_all expr_fits es ≡ true)
+    → (nat_le 1 (length es) ≡ true) × (list_all is_expr es ≡ true) × (1 + greatest (map expr_depth es) ≤ d) × (list_all expr_fits es ≡ true)
 closed_told zero es h = absurd h
 closed_told (suc d) [] h = absurd h
 closed_told (suc d) (e ∷ es) h =

@@ -50,9 +50,9 @@ literal_takes : (d : ℕ) → Sound literal_at (OneExpr d)
 unfolding literal_at
 literal_takes d =
     sound_next (quoted_at 39)
-      (λ t bytes. choose (after word.AsText bytes) (λ rest. Some (tree.text t, rest))
-         (after word.AsBigint bytes >>= λ rest. int_from t >>= λ n. Some (tree.int n, rest)))
-      (quoted 39) IsText (OneExpr d) (quoted_takes 39)
+    (λ t bytes. choose (after word.AsText bytes) (λ rest. Some (tree.text t, rest))
+    (after word.AsBigint bytes >>= λ rest. int_from t >>= λ n. Some (tree.int n, rest)))
+    (quoted 39) IsText (OneExpr d) (quoted_takes 39)
     (λ t is. sound_choose_end word.AsText (tree.text t) (λ b e. OneExpr d (quoted 39 t ++ b) e) (refl, is) (λ bytes. after word.AsBigint bytes >>= λ rest. int_from t >>= λ n. Some (tree.int n, rest))
     (sound_word word.AsBigint (λ rest. int_from t >>= λ n. Some (tree.int n, rest)) (λ b e. OneExpr d (quoted 39 t ++ b) e) (record { takes = λ rest. int_taken d t rest (int_from t) refl })))
 
@@ -68,8 +68,8 @@ direction_takes : Sound direction_at Direction
 unfolding direction_at
 direction_takes =
     sound_choose_end word.AscNullsFirst (false, true) Direction (refl, tt)
-      (λ bytes. direction_or word.AscNullsLast (false, false) bytes
-         (direction_or word.DescNullsFirst (true, true) bytes (direction_or word.DescNullsLast (true, false) bytes None)))
+    (λ bytes. direction_or word.AscNullsLast (false, false) bytes
+    (direction_or word.DescNullsFirst (true, true) bytes (direction_or word.DescNullsLast (true, false) bytes None)))
     (sound_choose_end word.AscNullsLast (false, false) Direction (refl, tt) (λ bytes. direction_or word.DescNullsFirst (true, true) bytes (direction_or word.DescNullsLast (true, false) bytes None))
     (sound_choose_end word.DescNullsFirst (true, true) Direction (refl, tt) (λ bytes. direction_or word.DescNullsLast (true, false) bytes None)
     (sound_choose_end word.DescNullsLast (true, false) Direction (refl, tt) (λ bytes. None)
@@ -88,14 +88,14 @@ pub head_takes : Sound head_at OneHead
 unfolding head_at
 head_takes =
     one_head head.Object
-      (λ bytes. head_or head.CountAll bytes
-         (head_or head.CountDistinct bytes
-            (head_or head.Count bytes
-               (head_or head.Sum bytes (head_or head.Min bytes (head_or head.Max bytes (head_or head.JsonAgg bytes None)))))))
+    (λ bytes. head_or head.CountAll bytes
+    (head_or head.CountDistinct bytes
+    (head_or head.Count bytes
+    (head_or head.Sum bytes (head_or head.Min bytes (head_or head.Max bytes (head_or head.JsonAgg bytes None)))))))
     (one_head head.CountAll
-      (λ bytes. head_or head.CountDistinct bytes
-         (head_or head.Count bytes
-            (head_or head.Sum bytes (head_or head.Min bytes (head_or head.Max bytes (head_or head.JsonAgg bytes None))))))
+    (λ bytes. head_or head.CountDistinct bytes
+    (head_or head.Count bytes
+    (head_or head.Sum bytes (head_or head.Min bytes (head_or head.Max bytes (head_or head.JsonAgg bytes None))))))
     (one_head head.CountDistinct (λ bytes. head_or head.Count bytes (head_or head.Sum bytes (head_or head.Min bytes (head_or head.Max bytes (head_or head.JsonAgg bytes None)))))
     (one_head head.Count (λ bytes. head_or head.Sum bytes (head_or head.Min bytes (head_or head.Max bytes (head_or head.JsonAgg bytes None))))
     (one_head head.Sum (λ bytes. head_or head.Min bytes (head_or head.Max bytes (head_or head.JsonAgg bytes None)))
@@ -147,11 +147,11 @@ module _ (d : ℕ) (expr : Reader ExprTree) (expr_takes : Sound expr (OneExpr d)
   unfolding pairs_with
   pairs_takes =
       sound_choose_end word.Close (tree.object tree.no_pair) (Behind (suc d) head.Object) (refl, tt)
-        (λ bytes. all_many (pair_with expr) word.Comma bytes >>= λ ps. after word.Close ps.1 >>= λ rest. Some
-           (tree.object (pairs_of ps.0), rest))
+      (λ bytes. all_many (pair_with expr) word.Comma bytes >>= λ ps. after word.Close ps.1 >>= λ rest. Some
+      (tree.object (pairs_of ps.0), rest))
       (sound_next (all_many (pair_with expr) word.Comma)
-        (λ ps bytes. after word.Close bytes >>= λ rest. Some (tree.object (pairs_of ps), rest))
-        (list_text (pair_with expr) word.Comma pair_text (GoodPair d)) (AllGood (GoodPair d)) (Behind (suc d) head.Object)
+      (λ ps bytes. after word.Close bytes >>= λ rest. Some (tree.object (pairs_of ps), rest))
+      (list_text (pair_with expr) word.Comma pair_text (GoodPair d)) (AllGood (GoodPair d)) (Behind (suc d) head.Object)
       (all_many_takes (pair_with expr) word.Comma pair_text (GoodPair d) pair_takes)
       (λ ps good. sound_end word.Close (tree.object (pairs_of ps)) (λ b e. Behind (suc d) head.Object (separated word.Comma (map pair_text ps) ++ b) e)
       (ap (λ ts. word_text word.BuildObject ++ (separated word.Comma ts ++ word_text word.Close)) (sym (pair_texts_of ps)), fits_pairs d ps (all_of (GoodPair d) ps good))))
@@ -160,14 +160,14 @@ module _ (d : ℕ) (expr : Reader ExprTree) (expr_takes : Sound expr (OneExpr d)
   unfolding argument_with
   argument_takes =
       sound_next expr (λ e bytes. after word.Close bytes >>= λ rest. Some (e, rest)) expr_text Fits (Spelled closed_text Fits) expr_takes
-        (λ e fits. sound_end word.Close e (λ b x. Spelled closed_text Fits (expr_text e ++ b) x) (refl, fits))
+      (λ e fits. sound_end word.Close e (λ b x. Spelled closed_text Fits (expr_text e ++ b) x) (refl, fits))
 
   order_takes : Sound (order_with expr) (Spelled order_text (GoodOrder d))
   unfolding order_with
   order_takes =
       sound_next expr (λ e bytes. direction_at bytes >>= λ x. Some (record { value = e; desc = x.0.0; nulls_first = x.0.1 }, x.1)) expr_text Fits (Spelled order_text (GoodOrder d)) expr_takes
       (λ e fits. sound_last direction_at (λ x. record { value = e; desc = x.0; nulls_first = x.1 }) direction_text (λ x. Unit {0})
-         (λ b o. Spelled order_text (GoodOrder d) (expr_text e ++ b) o) (λ x u. (refl, fits)) direction_takes)
+      (λ b o. Spelled order_text (GoodOrder d) (expr_text e ++ b) o) (λ x u. (refl, fits)) direction_takes)
 
   pub order_list_takes : Sound (all_many (order_with expr) word.Comma) (Spelled (list_text (order_with expr) word.Comma order_text (GoodOrder d)) (AllGood (GoodOrder d)))
   order_list_takes = all_many_takes (order_with expr) word.Comma order_text (GoodOrder d) order_takes
@@ -176,21 +176,21 @@ module _ (d : ℕ) (expr : Reader ExprTree) (expr_takes : Sound expr (OneExpr d)
   unfolding ordered_with
   ordered_takes =
       sound_next expr
-        (λ e bytes. after word.OrderBy bytes >>= λ rest. all_many (order_with expr) word.Comma rest >>= λ os. after word.OrEmptyArray os.1
-           >>= λ end. Some (tree.aggregate (tree.json_agg e (orders_of os.0)), end))
-        expr_text Fits (Behind (suc (suc d)) head.JsonAgg) expr_takes
+      (λ e bytes. after word.OrderBy bytes >>= λ rest. all_many (order_with expr) word.Comma rest >>= λ os. after word.OrEmptyArray os.1
+      >>= λ end. Some (tree.aggregate (tree.json_agg e (orders_of os.0)), end))
+      expr_text Fits (Behind (suc (suc d)) head.JsonAgg) expr_takes
       (λ e fits. sound_word word.OrderBy
-        (λ rest. all_many (order_with expr) word.Comma rest >>= λ os. after word.OrEmptyArray os.1 >>= λ end. Some
-           (tree.aggregate (tree.json_agg e (orders_of os.0)), end))
-        (λ b x. Behind (suc (suc d)) head.JsonAgg (expr_text e ++ b) x)
+      (λ rest. all_many (order_with expr) word.Comma rest >>= λ os. after word.OrEmptyArray os.1 >>= λ end. Some
+      (tree.aggregate (tree.json_agg e (orders_of os.0)), end))
+      (λ b x. Behind (suc (suc d)) head.JsonAgg (expr_text e ++ b) x)
       (sound_next (all_many (order_with expr) word.Comma)
-        (λ os bytes. after word.OrEmptyArray bytes >>= λ end. Some (tree.aggregate (tree.json_agg e (orders_of os)), end))
-        (list_text (order_with expr) word.Comma order_text (GoodOrder d)) (AllGood (GoodOrder d))
-        (λ b x. Behind (suc (suc d)) head.JsonAgg (expr_text e ++ (word_text word.OrderBy ++ b)) x)
+      (λ os bytes. after word.OrEmptyArray bytes >>= λ end. Some (tree.aggregate (tree.json_agg e (orders_of os)), end))
+      (list_text (order_with expr) word.Comma order_text (GoodOrder d)) (AllGood (GoodOrder d))
+      (λ b x. Behind (suc (suc d)) head.JsonAgg (expr_text e ++ (word_text word.OrderBy ++ b)) x)
       order_list_takes
       (λ os good. sound_end word.OrEmptyArray (tree.aggregate (tree.json_agg e (orders_of os)))
-        (λ b x. Behind (suc (suc d)) head.JsonAgg
-           (expr_text e ++ (word_text word.OrderBy ++ (separated word.Comma (map order_text os) ++ b))) x)
+      (λ b x. Behind (suc (suc d)) head.JsonAgg
+      (expr_text e ++ (word_text word.OrderBy ++ (separated word.Comma (map order_text os) ++ b))) x)
       (ap (λ ts. word_text word.JsonAgg ++ (expr_text e ++ (word_text word.OrderBy ++ (separated word.Comma ts ++ word_text word.OrEmptyArray)))) (sym (order_texts_of os)), (at_least_one d os good, fits, fits_orders d os (all_of (GoodOrder d) os good))))))
 
   inside_takes : (ordered : Reader ExprTree) → Sound ordered (Behind (suc d) head.JsonAgg) → (h : Head) → Sound (inside_with expr ordered h) (Behind (suc d) h)
@@ -199,10 +199,10 @@ module _ (d : ℕ) (expr : Reader ExprTree) (expr_takes : Sound expr (OneExpr d)
   inside_takes ordered sound_ordered head.CountAll = sound_pure (tree.aggregate tree.count_all) (Behind (suc d) head.CountAll) (append-nil (word_text word.CountAll), tt)
   inside_takes ordered sound_ordered head.CountDistinct =
       sound_last (argument_with expr) (λ e. tree.aggregate (tree.count e true)) closed_text Fits (Behind (suc d) head.CountDistinct)
-        (λ e fits. (refl, fits)) argument_takes
+      (λ e fits. (refl, fits)) argument_takes
   inside_takes ordered sound_ordered head.Count =
       sound_last (argument_with expr) (λ e. tree.aggregate (tree.count e false)) closed_text Fits (Behind (suc d) head.Count)
-        (λ e fits. (refl, fits)) argument_takes
+      (λ e fits. (refl, fits)) argument_takes
   inside_takes ordered sound_ordered head.Sum = sound_last (argument_with expr) (λ e. tree.aggregate (tree.sum e)) closed_text Fits (Behind (suc d) head.Sum) (λ e fits. (refl, fits)) argument_takes
   inside_takes ordered sound_ordered head.Min = sound_last (argument_with expr) (λ e. tree.aggregate (tree.min e)) closed_text Fits (Behind (suc d) head.Min) (λ e fits. (refl, fits)) argument_takes
   inside_takes ordered sound_ordered head.Max = sound_last (argument_with expr) (λ e. tree.aggregate (tree.max e)) closed_text Fits (Behind (suc d) head.Max) (λ e fits. (refl, fits)) argument_takes
@@ -216,8 +216,8 @@ module _ (d : ℕ) (inside : Head → Reader ExprTree) (inside_takes : (h : Head
   expr_with_takes =
       sound_choose_end word.True (tree.bool true) (OneExpr d) (refl, tt)
       (λ bytes. choose (after word.False bytes) (λ rest. Some (tree.bool false, rest))
-         (choose (after word.TextQuote bytes) (λ rest. literal_at bytes)
-            (choose (after word.NameQuote bytes) (λ rest. column_at bytes) (head_at bytes >>= λ h. inside h.0 h.1))))
+      (choose (after word.TextQuote bytes) (λ rest. literal_at bytes)
+      (choose (after word.NameQuote bytes) (λ rest. column_at bytes) (head_at bytes >>= λ h. inside h.0 h.1))))
       (sound_choose_end word.False (tree.bool false) (OneExpr d) (refl, tt)
       (λ bytes. choose (after word.TextQuote bytes) (λ rest. literal_at bytes) (choose (after word.NameQuote bytes) (λ rest. column_at bytes) (head_at bytes >>= λ h. inside h.0 h.1)))
       (sound_peek word.TextQuote literal_at (λ bytes. choose (after word.NameQuote bytes) (λ rest. column_at bytes) (head_at bytes >>= λ h. inside h.0 h.1)) (OneExpr d) (literal_takes d)
@@ -243,7 +243,7 @@ out_takes : (d : ℕ) → Sound (out_with (expr_at d)) (Spelled out_text (GoodOu
 unfolding out_with
 out_takes d =
     sound_next (expr_at d) (λ e bytes. after word.As bytes >>= λ rest. name_at rest >>= λ n. Some (record { value = e; name = n.0 }, n.1))
-      expr_text (λ e. FitsExpr e d) (Spelled out_text (GoodOut d)) (expr_takes d)
+    expr_text (λ e. FitsExpr e d) (Spelled out_text (GoodOut d)) (expr_takes d)
     (λ e fits. sound_word word.As (λ rest. name_at rest >>= λ n. Some (record { value = e; name = n.0 }, n.1)) (λ b o. Spelled out_text (GoodOut d) (expr_text e ++ b) o)
     (sound_last name_at (λ n. record { value = e; name = n }) name_text IsText (λ b o. Spelled out_text (GoodOut d) (expr_text e ++ (word_text word.As ++ b)) o) (λ n is. (refl, (fits, is))) (quoted_takes 34)))
 

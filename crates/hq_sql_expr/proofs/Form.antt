@@ -96,9 +96,11 @@ mutual
       let m = orders_told os d h.2.1 in
       let le : expr_depth e ≤ d = k.1 in
       let first : expr_depth f ≤ d = l.1 in
-      let more : orders_depth os ≤ d = m.1 in
-      (both_and (is_expr e && is_expr f) (are_orders os) (both_and (is_expr e) (is_expr f) k.0 l.0) m.0, omega arith,
-         both_and (expr_fits e) (expr_fits f && orders_fit os) k.2 (both_and (expr_fits f) (orders_fit os) l.2 m.2))
+      let more : orders_depth os ≤ d = m.1 in (
+        both_and (is_expr e && is_expr f) (are_orders os) (both_and (is_expr e) (is_expr f) k.0 l.0) m.0,
+        omega arith,
+        both_and (expr_fits e) (expr_fits f && orders_fit os) k.2 (both_and (expr_fits f) (orders_fit os) l.2 m.2),
+      )
 
   orders_told : (os : OrderTrees) (d : ℕ) → FitsOrders os d → (are_orders os ≡ true) × (orders_depth os ≤ d) × (orders_fit os ≡ true)
   orders_told tree.no_order d h = (refl, omega arith, refl)
@@ -112,7 +114,7 @@ mutual
 -- ---- lists
 
 pub fits_keys : (d : ℕ) (os : List OrderTree) → list_all (λ o. is_expr o.value) os ≡ true → greatest (map (λ o. expr_depth o.value) os) ≤ d
-  → list_all order_fits os ≡ true → AllByRecursion (GoodOrder d) os
+    → list_all order_fits os ≡ true → AllByRecursion (GoodOrder d) os
 fits_keys d [] form depth fits = tt
 fits_keys d (o ∷ os) form depth fits =
     let f = and_both (is_expr o.value) (list_all (λ o. is_expr o.value) os) form in
@@ -120,7 +122,7 @@ fits_keys d (o ∷ os) form depth fits =
     (fits_expr o.value d f.0 (omega arith) v.0, fits_keys d os f.1 (omega arith) v.1)
 
 pub keys_told : (d : ℕ) (os : List OrderTree) → AllByRecursion (GoodOrder d) os
-  → (list_all (λ o. is_expr o.value) os ≡ true) × (greatest (map (λ o. expr_depth o.value) os) ≤ d) × (list_all order_fits os ≡ true)
+    → (list_all (λ o. is_expr o.value) os ≡ true) × (greatest (map (λ o. expr_depth o.value) os) ≤ d) × (list_all order_fits os ≡ true)
 keys_told d [] h = (refl, omega arith, refl)
 keys_told d (o ∷ os) h =
     let k = expr_told o.value d h.0 in
@@ -143,7 +145,7 @@ fits_outs d (o ∷ os) form depth fits =
     (fits_out d o f.0 (omega arith) v.0, fits_outs d os f.1 (omega arith) v.1)
 
 pub outs_told : (d : ℕ) (os : List OutTree) → AllByRecursion (GoodOut d) os
-  → (list_all (λ o. is_expr o.value) os ≡ true) × (greatest (map (λ o. expr_depth o.value) os) ≤ d) × (list_all out_fits os ≡ true)
+    → (list_all (λ o. is_expr o.value) os ≡ true) × (greatest (map (λ o. expr_depth o.value) os) ≤ d) × (list_all out_fits os ≡ true)
 outs_told d [] h = (refl, omega arith, refl)
 outs_told d (o ∷ os) h =
     let k = out_told d o h.0 in

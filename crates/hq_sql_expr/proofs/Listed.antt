@@ -35,8 +35,8 @@ module _ {A : Type 0} (item : Reader A) (w : Word) (spelled : A → List ℕ) (G
   all_many_takes sound_item = record { takes = λ bytes. (many_takes sound_item (length bytes + 1)).takes bytes }
 
   module _ (Follows : List ℕ → Type 0)
-    (item_again : (x : A) (rest : List ℕ) → Good x → Follows rest → item (spelled x ++ rest) ≡ Some (x, rest))
-    (word_follows : (rest : List ℕ) → Follows (word_text w ++ rest)) (word_some : 0 < length (word_text w)) where
+      (item_again : (x : A) (rest : List ℕ) → Good x → Follows rest → item (spelled x ++ rest) ≡ Some (x, rest))
+      (word_follows : (rest : List ℕ) → Follows (word_text w ++ rest)) (word_some : 0 < length (word_text w)) where
     many_again : (xs : List A) (x : A) (rest : List ℕ) (n : ℕ) → Good x → AllByRecursion Good xs → Follows rest → after w rest ≡ None → length xs < n
         → many item w n (list_text (x ∷ xs) ++ rest) ≡ Some (x ∷ xs, rest)
     unfolding many
@@ -52,7 +52,7 @@ module _ {A : Type 0} (item : Reader A) (w : Word) (spelled : A → List ℕ) (G
     enough (x ∷ xs) = omega (arith, enough xs, length-append (word_text w) (spelled x ++ each_after w (map spelled xs)), length-append (spelled x) (each_after w (map spelled xs)))
 
     pub all_many_again : (x : A) (xs : List A) (rest : List ℕ) → Good x → AllByRecursion Good xs → Follows rest → after w rest ≡ None
-      → all_many item w (list_text (x ∷ xs) ++ rest) ≡ Some (x ∷ xs, rest)
+        → all_many item w (list_text (x ∷ xs) ++ rest) ≡ Some (x ∷ xs, rest)
     all_many_again x xs rest good all follows none =
         let size = enough xs in
         many_again xs x rest (length (list_text (x ∷ xs) ++ rest) + 1) good all follows none

@@ -15,13 +15,13 @@ regroup front x None = refl
 regroup front x (Some xs) = ap (λ ys. Some (ys, xs.1)) (sym (append_assoc front (x ∷ []) xs.0))
 
 module _ {A : Type 0} (item : Reader A) (w : Word) (front : List A) (count i : ℕ) (bytes : List ℕ) (total : Option (List A × List ℕ))
-  (lt : i < count) (so_far : with_front front (many item w (count - i) bytes) ≡ total) where
+    (lt : i < count) (so_far : with_front front (many item w (count - i) bytes) ≡ total) where
   pub goes_on : (x : A) (left next : List ℕ) → item bytes ≡ Some (x, left) → after w left ≡ Some next → with_front (front ++ x ∷ []) (many item w (count - (i + 1)) next) ≡ total
   unfolding many
   goes_on x left next read word =
       let k : count - i ≡ suc (count - (i + 1)) = omega arith in
       let one : with_front front (many item w (count - i) bytes) ≡ with_front (front ++ x ∷ []) (many item w (count - (i + 1)) next) =
-          rw (k, read, word) (regroup front x (many item w (count - (i + 1)) next)) in
+      rw (k, read, word) (regroup front x (many item w (count - (i + 1)) next)) in
       sym one ∙ so_far
 
   pub fails : item bytes ≡ None → total ≡ None
@@ -39,7 +39,7 @@ module _ {A : Type 0} (item : Reader A) (w : Word) (front : List A) (count i : �
       sym so_far ∙ one
 
 pub ends : {A : Type 0} (item : Reader A) (w : Word) (front : List A) (count i : ℕ) (bytes : List ℕ) (total : Option (List A × List ℕ))
-  → count ≤ i → with_front front (many item w (count - i) bytes) ≡ total → total ≡ None
+    → count ≤ i → with_front front (many item w (count - i) bytes) ≡ total → total ≡ None
 unfolding many
 ends item w front count i bytes total le so_far =
     let k : count - i ≡ 0 = omega arith in

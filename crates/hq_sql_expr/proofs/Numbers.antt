@@ -59,8 +59,8 @@ not_read digits never (Some n) e = absurd (never n e)
 pub none_parsed : (digits : List ℕ) → Unparsed digits → number_from digits ≡ None
 none_parsed digits h =
     let never : (n : ℕ) → number_from digits ≡ Some n → ⊥ =
-        λ n e. let k = number_from_takes digits n e in let ok : ◌≡◌ {A = Result ℕ ℕ} (Err 0) (Ok n) = parse_gives digits n k.1 k.0 (Err 0) h
-          in absurd cc in
+    λ n e. let k = number_from_takes digits n e in let ok : ◌≡◌ {A = Result ℕ ℕ} (Err 0) (Ok n) = parse_gives digits n k.1 k.0 (Err 0) h
+    in absurd cc in
     not_read digits never (number_from digits) refl
 
 pub none_shortest : (digits written : List ℕ) (m : ℕ) → Parsed digits m → written ≡ decimal m → bytes_eq written digits ≡ false → number_from digits ≡ None
@@ -82,14 +82,14 @@ digits_join : (bytes : List ℕ) → bytes ≡ leading_digits bytes ++ after_dig
 digits_join [] = refl
 digits_join (b ∷ bytes) =
     elim (is_digit b) as (λ t. b ∷ bytes ≡ cond t (b ∷ leading_digits bytes) [] ++ cond t (after_digits bytes) (b ∷ bytes))
-      [ true ↦ ap (λ t. b ∷ t) (digits_join bytes) | false ↦ refl ]
+    [ true ↦ ap (λ t. b ∷ t) (digits_join bytes) | false ↦ refl ]
 
 number_by : (bytes digits rest : List ℕ) → bytes ≡ digits ++ rest → (o : Option ℕ) → number_from digits ≡ o → Taken (Spelled decimal (λ n. nat_lt n (2 ^ 64) ≡ true)) bytes (o >>= λ n. Some (n, rest))
 number_by bytes digits rest is None e = tt
 number_by bytes digits rest is (Some n) e = let k = number_from_takes digits n e in (digits, is, (k.0, k.1))
 
 text_by : (bytes digits rest : List ℕ) → bytes ≡ digits ++ rest → (b : Bool)
-  → Taken (Spelled decimal (λ n. nat_lt n (2 ^ 64) ≡ true)) bytes (cond b (Some digits) None >>= λ t. number_from t >>= λ n. Some (n, rest))
+    → Taken (Spelled decimal (λ n. nat_lt n (2 ^ 64) ≡ true)) bytes (cond b (Some digits) None >>= λ t. number_from t >>= λ n. Some (n, rest))
 text_by bytes digits rest is true = number_by bytes digits rest is (number_from digits) refl
 text_by bytes digits rest is false = tt
 

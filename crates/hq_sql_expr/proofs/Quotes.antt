@@ -31,7 +31,7 @@ module _ (q : ℕ) (front : List ℕ) (total : Option (List ℕ × List ℕ)) wh
   at_byte b (c ∷ tail) e h = sym (regroup front b (unquoted q (c ∷ tail))) ∙ (rw e at h)
 
   pub at_twice : (b : ℕ) (tail more : List ℕ) → eqb b q ≡ true → strip (q ∷ []) tail ≡ Some more
-    → with_front front (unquoted q (b ∷ tail)) ≡ total → with_front (front ++ q ∷ []) (unquoted q more) ≡ total
+      → with_front front (unquoted q (b ∷ tail)) ≡ total → with_front (front ++ q ∷ []) (unquoted q more) ≡ total
   unfolding unquoted
   at_twice b [] more e s h = absurd cc
   at_twice b (c ∷ tail) more e s h =

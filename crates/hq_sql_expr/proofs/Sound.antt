@@ -44,7 +44,7 @@ module _ {A B : Type 0} (p : Reader A) (g : A → B) (spelled : A → List ℕ) 
 -- what is read first, or where it is not read the other reader
 module _ {A B : Type 0} (p : Reader A) (f : A → Reader B) (q : Reader B) (spelled : A → List ℕ) (Good : A → Type 0) (T : List ℕ → B → Type 0) where
   by_either : (bytes : List ℕ) → ((x : A) → Good x → Sound (f x) (λ b y. T (spelled x ++ b) y)) → Taken T bytes (q bytes)
-    → (r : Option (A × List ℕ)) → Taken (Spelled spelled Good) bytes r → Taken T bytes (first_of r (λ y. f y.0 y.1) (q bytes))
+      → (r : Option (A × List ℕ)) → Taken (Spelled spelled Good) bytes r → Taken T bytes (first_of r (λ y. f y.0 y.1) (q bytes))
   by_either bytes sound_f taken None h = taken
   by_either bytes sound_f taken (Some x) (a, e, r) = second p f spelled Good T bytes a x.1 x.0 e r.0 (f x.0 x.1) ((sound_f x.0 r.1).takes x.1)
 
@@ -89,7 +89,7 @@ module _ {B : Type 0} (w : Word) (g : Reader B) (T : List ℕ → B → Type 0) 
   sound_word sound_g = record { takes = λ bytes. by_word bytes sound_g (after w bytes) refl }
 
   by_choice : (bytes : List ℕ) → Sound g (λ b y. T (word_text w ++ b) y) → (other : Option (B × List ℕ)) → Taken T bytes other
-    → (o : Option (List ℕ)) → after w bytes ≡ o → Taken T bytes (choose o g other)
+      → (o : Option (List ℕ)) → after w bytes ≡ o → Taken T bytes (choose o g other)
   by_choice bytes sound_g other taken None e = taken
   by_choice bytes sound_g other taken (Some rest) e = word_taken bytes rest (after_takes w bytes rest e) (g rest) (sound_g.takes rest)
 

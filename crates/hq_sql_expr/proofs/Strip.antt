@@ -24,8 +24,8 @@ strip_no (w ∷ ws) (b ∷ bytes) e = and_not (eqb b w) (pointwise eqb (take (le
 
 -- what a prefix that is stripped gives
 pub strip_is : (w bytes : List ℕ) (r : Option (Bor (List ℕ)))
-  → MatchOption r (pointwise eqb (take (length w) bytes) w ≡ false)
+    → MatchOption r (pointwise eqb (take (length w) bytes) w ≡ false)
     (λ x. (pointwise eqb (take (length w) bytes) w ≡ true) × (x.now ≡ drop (length w) bytes) × (length x.now + length w ≡ length bytes))
-  → option_map (λ x. x.now) r ≡ strip w bytes
+    → option_map (λ x. x.now) r ≡ strip w bytes
 strip_is w bytes None h = sym (strip_no w bytes h)
 strip_is w bytes (Some x) h = ap (λ t. Some t) h.1 ∙ sym (strip_yes w bytes h.0)

@@ -7,8 +7,8 @@ ghost use Rattle.hq_sql_tree.specs.Tree.{pairs_of, orders_of};
 ghost use Rattle.hq_sql_tree.specs.Spelling.{name_text, literal_text, int_text, separated, collate_text, direction_word, pair_texts, order_texts, expr_text, agg_text, order_text, out_text, pair_text};
 ghost use Rattle.hq_sql_expr.specs.Between.{before};
 
-use hq_base::{Memory, Txt};
 use crate::put_quoted;
+use hq_base::{Memory, Txt};
 use hq_sql_tree::{
     Agg, Expr, ExprList, ExprPair, ExprPairList, Order, OrderList, Out, OutList, Word,
 };

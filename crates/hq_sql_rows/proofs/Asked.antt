@@ -68,7 +68,7 @@ all_member (p ∷ ps) (suc i) d w m lt e = all_member ps i d w m (omega arith) (
 
 -- what a member of an And forces, the And forces
 pub forces_member : (ps : List Pred) (i : ℕ) (p : Pred) (alias name : List ℕ) (e : ExprTree) → i < length ps → p ≡ get_or ps i p
-  → Forces (pred_view p) alias name e → Forces (tree.all_of (preds_of (map pred_view ps))) alias name e
+    → Forces (pred_view p) alias name e → Forces (tree.all_of (preds_of (map pred_view ps))) alias name e
 forces_member ps i p alias name e lt is forces = record { equals = λ w m holds. forces.equals w m (ap (λ q. truth_at (pred_view q) w m) is ∙ all_member ps i p w m lt holds) }
 
 same_name : (a b : List ℕ) → bytes_eq a b ≡ true → a ≡ b
@@ -115,7 +115,7 @@ no_column = record { name = []; ty = Text; nullable = true }
 
 -- the cell of a column that no earlier one has the name of
 named_at : (cs : List Column) (row : Row) (name : List ℕ) (at : ℕ) → at < length cs → bytes_eq (get_or cs at no_column).name name ≡ true
-  → ((k : ℕ) → k < at → bytes_eq (get_or cs k no_column).name name ≡ false)
+    → ((k : ℕ) → k < at → bytes_eq (get_or cs k no_column).name name ≡ false)
     → cell_named (named_row cs row) name ≡ cell_in row at
 named_at [] row name at lt here before = absurd (omega arith)
 named_at (c ∷ cs) [] name zero lt here before = refl
@@ -132,7 +132,7 @@ named_first cs row name at e =
 -- the cell that a condition asks of a column
 pub asks_cell : (columns : List Column) (at : ℕ) (alias name : List ℕ) (js : JoinTrees) (p : PredTree) (scope : Scope) (e : ExprTree)
     (c : CellTree)
-  → position (λ k. bytes_eq k.name name) columns ≡ Some at → is_outer alias js e ≡ true → Forces p alias name e
+    → position (λ k. bytes_eq k.name name) columns ≡ Some at → is_outer alias js e ≡ true → Forces p alias name e
     → ((w : World) → c ≡ key_cell (value e [] (scope_of scope w))) → AsksCell columns at alias js p scope c
 asks_cell columns at alias name js p scope e c first outer forces is =
     record {
@@ -160,7 +160,7 @@ no_null_more [] y e f = rw f refl
 no_null_more (b ∷ ys) y e f = let both = or_parts (null_test b) (has_null ys) e in rw (both.0, no_null_more ys y both.1 f) refl
 
 key_more : (columns : List ℕ) (c : ℕ) (row : Row) (key : List CellTree) (k : CellTree) → has_key columns key row ≡ true
-  → is_eq (cell_cmp (cell_in row c) k) ≡ true → null_test k ≡ false → has_key (columns ++ c ∷ []) (key ++ k ∷ []) row ≡ true
+    → is_eq (cell_cmp (cell_in row c) k) ≡ true → null_test k ≡ false → has_key (columns ++ c ∷ []) (key ++ k ∷ []) row ≡ true
 key_more columns c row key k e f g =
     let both = and_parts (not (has_null key)) (is_eq (keys_cmp (key_in columns row) key)) e in
     let whole = no_null_more key k (not_true (has_null key) both.0) g in
@@ -173,7 +173,7 @@ asks_none columns alias js p scope = record { asks = λ w row m here around hold
 -- a cell more
 pub asks_more : (columns : List Column) (key_columns : List ℕ) (i : ℕ) (c : ℕ) (alias : List ℕ) (js : JoinTrees) (p : PredTree)
     (scope : Scope) (key : List CellTree) (k : CellTree)
-  → i < length key_columns → c ≡ get_or key_columns i c
+    → i < length key_columns → c ≡ get_or key_columns i c
     → AsksKey columns (take i key_columns) alias js p scope key → AsksCell columns c alias js p scope k → AsksKey columns (take (i + 1) key_columns) alias js p scope (key ++ k ∷ [])
 asks_more columns key_columns i c alias js p scope key k lt is so_far cell =
     let longer : take (i + 1) key_columns ≡ take i key_columns ++ c ∷ [] = ap (λ n. take n key_columns) (add-one i) ∙ take-suc key_columns i c lt ∙ ap (λ d. take i key_columns ++ d ∷ []) (sym is) in

@@ -28,7 +28,7 @@ suffices_both n m bound is xs ys e =
 
 -- a page has of the first so many rows what it has of all
 pub bound_page : (limit offset : Option ℕ) (bound : ℕ) (rows : List Names) → Suffices limit offset (Some bound)
-  → limited limit (offset_by offset (take bound rows)) ≡ limited limit (offset_by offset rows)
+    → limited limit (offset_by offset (take bound rows)) ≡ limited limit (offset_by offset rows)
 bound_page limit offset bound rows suffices =
     let page : List Names → List Names = λ l. limited limit (offset_by offset l) in
     let long = length-take bound rows in
@@ -36,8 +36,8 @@ bound_page limit offset bound rows suffices =
       | inl is ↦ (
           let few = is.1 in
           let all : nat_le bound (length (take bound rows)) ≡ true =
-              elim (leb_tells bound (length (take bound rows)))
-                [ inl h ↦ h.0 | inr h ↦ (let less = h.1 in absurd (omega (arith, long, few, less))) ] in
+          elim (leb_tells bound (length (take bound rows)))
+          [ inl h ↦ h.0 | inr h ↦ (let less = h.1 in absurd (omega (arith, long, few, less))) ] in
           sym (suffices (take bound rows) (drop bound rows) all) ∙ ap page (take-append-drop bound rows))
       | inr is ↦ (let many = is.1 in ap page (take_all bound rows (omega (arith, many))))
     ]

@@ -45,7 +45,7 @@ key_cells nulls_first a b e f =
 
 -- the first column of a name is a sort key
 pub key_is : (columns : List Column) (at : ℕ) (alias name : List ℕ) (o : OrderTree) → o.desc ≡ false
-  → position (λ c. bytes_eq c.name name) columns ≡ Some at → is_column alias name o.value ≡ true → IsKey columns alias at o
+    → position (λ c. bytes_eq c.name name) columns ≡ Some at → is_column alias name o.value ≡ true → IsKey columns alias at o
 key_is columns at alias name o ascends first is =
     record {
       ascends = ascends;
@@ -57,7 +57,7 @@ orders_none columns alias = record { orders = λ row other m n here there whole 
 
 -- one key more in front
 pub orders_more : (columns : List Column) (alias : List ℕ) (c : ℕ) (cs : List ℕ) (o : OrderTree) (os : List OrderTree)
-  → IsKey columns alias c o → OrdersBy columns alias cs os → OrdersBy columns alias (c ∷ cs) (o ∷ os)
+    → IsKey columns alias c o → OrdersBy columns alias cs os → OrdersBy columns alias (c ∷ cs) (o ∷ os)
 orders_more columns alias c cs o os key rest =
     record {
       orders = λ row other m n here there whole all.
@@ -65,8 +65,8 @@ orders_more columns alias c cs o os key rest =
           let second = or_parts (null_test (cell_in other c)) (has_null (key_in cs other)) all in
           ap₂ ordering_then
           (ap₂ (λ a b. key_cmp o.desc o.nulls_first a b) (key.cell row m here) (key.cell other n there)
-             ∙ ap (λ d. key_cmp d o.nulls_first (cell_in row c) (cell_in other c)) key.ascends
-             ∙ key_cells o.nulls_first (cell_in row c) (cell_in other c) first.0 second.0)
+          ∙ ap (λ d. key_cmp d o.nulls_first (cell_in row c) (cell_in other c)) key.ascends
+          ∙ key_cells o.nulls_first (cell_in row c) (cell_in other c) first.0 second.0)
           (rest.orders row other m n here there first.1 second.1);
     }
 
@@ -107,8 +107,8 @@ module _ (columns : List Column) (rows : List Row) (js : JoinTrees) (w : World) 
       let r = get_or (map (named_row columns) rows) p [] in
       each_filter (IsAt p) keeps (joined js w (with_alias n a r))
       (each_weaken (Keeps js (with_alias n a r)) (IsAt p)
-         (λ m around. around a alone ∙ (ap (λ b. cond b r (n a)) (same_bytes a) ∙ sym (stored_row columns rows p)))
-         (joined js w (with_alias n a r)) (joined_keeps js w (with_alias n a r)))
+      (λ m around. around a alone ∙ (ap (λ b. cond b r (n a)) (same_bytes a) ∙ sym (stored_row columns rows p)))
+      (joined js w (with_alias n a r)) (joined_keeps js w (with_alias n a r)))
 
   -- what WHERE keeps of the rows in the order of an index is what it keeps of all of them, sorted
   pub ordered_is : (os : List OrderTree) (index : Index) → HasOrder columns rows a os index → is_joined js a ≡ false

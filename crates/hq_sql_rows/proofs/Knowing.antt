@@ -19,7 +19,7 @@ known_same w from from' js p p' f k e h j c known made =
 
 -- one more is right where each is
 pub one_more : (P : Known → Type 0) (xs : List Known) (x : Known) → ((i : ℕ) (d : Known) → i < length xs → P (get_or xs i d)) → P x
-  → (i : ℕ) (d : Known) → i < length (xs ++ (x ∷ [])) → P (get_or (xs ++ (x ∷ [])) i d)
+    → (i : ℕ) (d : Known) → i < length (xs ++ (x ∷ [])) → P (get_or (xs ++ (x ∷ [])) i d)
 one_more P [] x all h zero d lt = h
 one_more P [] x all h (suc i) d lt = absurd (omega arith)
 one_more P (y ∷ ys) x all h zero d lt = all zero d (omega arith)

@@ -91,7 +91,7 @@ module _ (js : JoinTrees) (w : World) (n : Names) (a : List ℕ) (keeps : Names 
 
   -- places that give nothing may be left out
   left_out : (f : ℕ → NamedRow) (q : ℕ → Bool) → ((p : ℕ) → q p ≡ false → filter keeps (joined js w (with_alias n a (f p))) ≡ [])
-    → (ps : List ℕ) → kept_of js w n a keeps (map f (filter q ps)) ≡ kept_of js w n a keeps (map f ps)
+      → (ps : List ℕ) → kept_of js w n a keeps (map f (filter q ps)) ≡ kept_of js w n a keeps (map f ps)
   left_out f q none [] = refl
   left_out f q none (p ∷ ps) =
       let later = left_out f q none ps in
@@ -119,10 +119,10 @@ is_yes Unknown e = cc
 -- the rows that have the key that a condition asks for give all that it keeps
 pub looked_is : (columns : List Column) (rows : List Row) (key_columns : List ℕ) (key : List CellTree) (alias : List ℕ) (js : JoinTrees)
     (p : PredTree) (scope : Scope) (w : World)
-  → AsksKey columns key_columns alias js p scope key → is_joined js alias ≡ false
+    → AsksKey columns key_columns alias js p scope key → is_joined js alias ≡ false
     → kept_of js w (scope_of scope w) alias (kept (tree.filter p) w)
-        (map (λ q. get_or (map (named_row columns) rows) q []) (rows_with key_columns key rows))
-      ≡ kept_of js w (scope_of scope w) alias (kept (tree.filter p) w) (map (named_row columns) rows)
+    (map (λ q. get_or (map (named_row columns) rows) q []) (rows_with key_columns key rows))
+    ≡ kept_of js w (scope_of scope w) alias (kept (tree.filter p) w) (map (named_row columns) rows)
 looked_is columns rows key_columns key alias js p scope w asked alone =
     let n = scope_of scope w in
     let keeps = kept (tree.filter p) w in
@@ -137,8 +137,8 @@ looked_is columns rows key_columns key alias js p scope w asked alone =
     let none : (k : ℕ) → q k ≡ false → filter keeps (joined js w (with_alias n alias (f k))) ≡ [] =
     λ k out. none_kept keeps (joined js w (with_alias n alias (f k)))
     (each_weaken (Keeps js (with_alias n alias (f k))) (λ m. keeps m ≡ true → ⊥) (λ m around. never k out m around)
-         (joined js w (with_alias n alias (f k))) (joined_keeps js w (with_alias n alias (f k))))
-      in
+    (joined js w (with_alias n alias (f k))) (joined_keeps js w (with_alias n alias (f k))))
+    in
     left_out js w n alias keeps f q none (counted 0 (length rows)) ∙ ap (kept_of js w n alias keeps) (stored_rows columns rows)
 
 -- ---- places one after the other

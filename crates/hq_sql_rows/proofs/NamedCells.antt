@@ -6,8 +6,8 @@ use Rattle.hq_sql_tree.specs.Meaning.{cell_named, named_row}
 
 -- a column of another name leads on
 pub named_step : (cs : List Column) (vs : List Val) (i : ℕ) (d : Column) (name : List ℕ) → i < length cs → i < length vs
-  → bytes_eq (get_or cs i d).name name ≡ false
-  → cell_named (named_row (drop i cs) (drop i vs)) name ≡ cell_named (named_row (drop (i + 1) cs) (drop (i + 1) vs)) name
+    → bytes_eq (get_or cs i d).name name ≡ false
+    → cell_named (named_row (drop i cs) (drop i vs)) name ≡ cell_named (named_row (drop (i + 1) cs) (drop (i + 1) vs)) name
 named_step [] vs i d name h k e = absurd (omega arith)
 named_step (c ∷ cs) [] i d name h k e = absurd (omega arith)
 named_step (c ∷ cs) (v ∷ vs) zero d name h k e = rw e refl

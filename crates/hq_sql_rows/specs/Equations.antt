@@ -48,7 +48,7 @@ IsAround m n alias js = (b : List ℕ) → bytes_eq alias b ≡ false → is_joi
 -- where the condition is true at a row, its cell in the column is this one
 pub record AsksCell (columns : List Column) (at : ℕ) (alias : List ℕ) (js : JoinTrees) (p : PredTree) (scope : Scope) (c : CellTree) : Type 0 where
   pub asks : (w : World) (row : Row) (m : Names) → m alias ≡ named_row columns row → IsAround m (scope_of scope w) alias js
-    → truth_at p w m ≡ Yes → (is_eq (cell_cmp (cell_in row at) c) ≡ true) × (null_test c ≡ false)
+      → truth_at p w m ≡ Yes → (is_eq (cell_cmp (cell_in row at) c) ≡ true) × (null_test c ≡ false)
 
 -- where the condition is true at a row, it has this key
 pub record AsksKey (columns : List Column) (key_columns : List ℕ) (alias : List ℕ) (js : JoinTrees) (p : PredTree) (scope : Scope) (key : List CellTree) : Type 0 where

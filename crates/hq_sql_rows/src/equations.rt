@@ -238,9 +238,9 @@ pub fn asked_key<'d>(
     scope: &Scope<'_, 'd>,
 ) -> Result<Option<Vec<KeyCell<'d>>>, Memory>
     ensures { IfOk result
-          (λ found. IfSome found
-             (λ key. AsksKey table.now.columns columns.now alias.now (joins_of (map join_view joins.now)) (pred_view pred.now) scope.now
-                (map key_view key.items))) }
+        (λ found. IfSome found
+        (λ key. AsksKey table.now.columns columns.now alias.now (joins_of (map join_view joins.now)) (pred_view pred.now) scope.now
+        (map key_view key.items))) }
 {
     let mut key = Vec::with_capacity(alloc, columns.len())?;
     for column in columns {

@@ -21,9 +21,9 @@ pub fn known_of<'m, 'd>(
     filter: &Option<Pred>,
 ) -> Option<&'m Known<'d>>
     ensures known { IfSome result
-          (λ k. (made : Items NamedRow)
-             → IsKnown (world_of world.now) (rows_given (from_view from.now) (world_of world.now) made) (alias_in (from_view from.now))
-               (joins_of (map join_view joins.now)) (filter_view filter.now) k.now) }
+        (λ k. (made : Items NamedRow)
+        → IsKnown (world_of world.now) (rows_given (from_view from.now) (world_of world.now) made) (alias_in (from_view from.now))
+        (joins_of (map join_view joins.now)) (filter_view filter.now) k.now) }
     ensures lighter { IfSome result (λ k. 1 + lent_weight k.now.rest.items ≤ filter_weight filter.now) }
 {
     let Some(pred) = filter else {

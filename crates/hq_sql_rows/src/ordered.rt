@@ -105,9 +105,9 @@ fn index_in_order<'s, 'd>(
     order: &[Order],
 ) -> Option<&'d Index>
     ensures { IfSome result
-          (λ index. (scope : InScope) (f : FilterTree)
-             → FindsArranged (joins_of (map join_view joins.now)) scope alias.now f [] (map order_view order.now) source.entry
-               (rows_at source.entry (Ordered index))) }
+        (λ index. (scope : InScope) (f : FilterTree)
+        → FindsArranged (joins_of (map join_view joins.now)) scope alias.now f [] (map order_view order.now) source.entry
+        (rows_at source.entry (Ordered index))) }
 {
     if is_joined(joins, alias) {
         return None;

@@ -73,9 +73,9 @@ fn looked_among<'d>(
     requires rows { rows_lent stored.now.rows ≡ rows.now }
     requires over { (i : ℕ) (d : Index) → i < length indexes.now → IsOver rows.now (slice_index_or indexes.now i d) }
     ensures { IfOk result
-          (λ found. IfSome found
-             (λ places. FindsAll (joins_of (map join_view joins.now)) scope.now alias.now (filtered (pred_view pred.now))
-                (source.Stored stored.entry) (map (row_in (source.Stored stored.entry)) places.now))) }
+        (λ found. IfSome found
+        (λ places. FindsAll (joins_of (map join_view joins.now)) scope.now alias.now (filtered (pred_view pred.now))
+        (source.Stored stored.entry) (map (row_in (source.Stored stored.entry)) places.now))) }
 {
     for index in indexes {
         if let Some(key) = asked_key(
@@ -107,9 +107,9 @@ fn looked_up<'d>(
 ) -> Result<Option<&'d [u32]>, Memory>
     requires { is_joined (joins_of (map join_view joins.now)) alias.now ≡ false }
     ensures { IfOk result
-          (λ found. IfSome found
-             (λ places. FindsAll (joins_of (map join_view joins.now)) scope.now alias.now (filtered (pred_view pred.now))
-                (source.Stored stored.entry) (map (row_in (source.Stored stored.entry)) places.now))) }
+        (λ found. IfSome found
+        (λ places. FindsAll (joins_of (map join_view joins.now)) scope.now alias.now (filtered (pred_view pred.now))
+        (source.Stored stored.entry) (map (row_in (source.Stored stored.entry)) places.now))) }
 {
     let Some(rows) = stored.rows else {
         return Ok(None);

@@ -109,36 +109,41 @@ outputs_not_one o os rest =
     let later = each_after word.Comma (map out_text os) ++ (word_text word.From ++ rest) in
     let regrouped : separated word.Comma (map out_text (o ∷ os)) ++ (word_text word.From ++ rest) ≡ expr_text o.value ++ (word_text word.As ++ (name_text o.name ++ later)) = simp append_assoc in
     after_select (separated word.Comma (map out_text (o ∷ os)) ++ (word_text word.From ++ rest))
-      ∙ ap (strip (codes "TRUE AS \"u\") AS ")) regrouped ∙ output_not_one o.value o.name later (outs_open os rest)
+    ∙ ap (strip (codes "TRUE AS \"u\") AS ")) regrouped ∙ output_not_one o.value o.name later (outs_open os rest)
 
 -- ---- a list behind a word
 
 module _ {A : Type 0} (first between : Word) (item : Reader A) (spelled : A → List ℕ) (Good : A → Type 0) (Follows : List ℕ → Type 0)
     (item_again : (x : A) (rest : List ℕ) → Good x → Follows rest → item (spelled x ++ rest) ≡ Some (x, rest))
-      (word_follows : (rest : List ℕ) → Follows (word_text between ++ rest)) (word_some : 0 < length (word_text between)) where
+    (word_follows : (rest : List ℕ) → Follows (word_text between ++ rest)) (word_some : 0 < length (word_text between)) where
   pub clause_again : (xs : List A) (rest : List ℕ) → AllByRecursion Good xs → Follows rest → after first rest ≡ None
-    → after between rest ≡ None → clause_with first between item (clause_text first between (map spelled xs) ++ rest) ≡ Some (xs, rest)
+      → after between rest ≡ None → clause_with first between item (clause_text first between (map spelled xs) ++ rest) ≡ Some (xs, rest)
   clause_again [] rest good follows none between_none = rw none refl
   clause_again (x ∷ xs) rest good follows none between_none =
       let listed = separated between (map spelled (x ∷ xs)) in
-      rw
-        (append_assoc (word_text first) listed rest, after_again first (listed ++ rest),
-           all_many_again item between spelled Good Follows item_again word_follows word_some x xs rest good.0 good.1 follows between_none)
-        refl
+      rw (
+        append_assoc (word_text first) listed rest,
+        after_again first (listed ++ rest),
+        all_many_again item between spelled Good Follows item_again word_follows word_some x xs rest good.0 good.1 follows between_none,
+      )
+      refl
 
 -- ---- what a select takes its rows from
 
 table_again : (s t a rest : List ℕ) → IsText s → IsText t → IsText a → Free 34 rest
-  → table_at (name_text s ++ (word_text word.Dot ++ (name_text t ++ (word_text word.As ++ (name_text a ++ rest)))))
+    → table_at (name_text s ++ (word_text word.Dot ++ (name_text t ++ (word_text word.As ++ (name_text a ++ rest)))))
     ≡ Some (tree.table s t a, rest)
 unfolding table_at
 table_again s t a rest is_s is_t is_a free =
     let as_a = word_text word.As ++ (name_text a ++ rest) in
-    rw
-      (quoted_again 34 s (word_text word.Dot ++ (name_text t ++ as_a)) is_s (dot_free (name_text t ++ as_a)),
-         after_again word.Dot (name_text t ++ as_a), quoted_again 34 t as_a is_t (as_ends (name_text a ++ rest)).0,
-         after_again word.As (name_text a ++ rest), quoted_again 34 a rest is_a free)
-      refl
+    rw (
+      quoted_again 34 s (word_text word.Dot ++ (name_text t ++ as_a)) is_s (dot_free (name_text t ++ as_a)),
+      after_again word.Dot (name_text t ++ as_a),
+      quoted_again 34 t as_a is_t (as_ends (name_text a ++ rest)).0,
+      after_again word.As (name_text a ++ rest),
+      quoted_again 34 a rest is_a free,
+    )
+    refl
 
 module _ (k : ℕ) (query : Reader SelectTree) (query_again : Query k query) where
   abbrev Good : JoinTree → Type 0
@@ -158,8 +163,8 @@ module _ (k : ℕ) (query : Reader SelectTree) (query_again : Query k query) whe
       rw (regrouped, aliased_again j (word_text word.OnTrue ++ rest) good (on_true_free rest), after_again word.OnTrue rest) refl
 
   some_joins_again : (js : List JoinTree) (rest : List ℕ) → AllByRecursion Good js → after word.LateralJoin rest ≡ None
-    → clause_with word.LateralJoin word.LateralJoin (join_with query)
-        (clause_text word.LateralJoin word.LateralJoin (map join_text js) ++ rest)
+      → clause_with word.LateralJoin word.LateralJoin (join_with query)
+      (clause_text word.LateralJoin word.LateralJoin (map join_text js) ++ rest)
       ≡ Some (js, rest)
   some_joins_again js rest good none = clause_again word.LateralJoin word.LateralJoin (join_with query) join_text Good (λ rest. Unit {0}) join_again (λ rest. tt) lateral_some js rest good tt none none
 
@@ -188,9 +193,9 @@ after_from from joins condition keys limit offset rest = from_text from ++ (each
 abbrev parts : List ExprTree → List OutTree → FromTree → JoinTrees → FilterTree → List OrderTree → (limit offset : Option ℕ) → List ℕ → List ℕ
 parts distinct outs from joins condition keys limit offset rest =
     word_text word.Select
-      ++
-        (distinct_text distinct
-           ++ (separated word.Comma (map out_text outs) ++ (word_text word.From ++ after_from from joins condition keys limit offset rest)))
+    ++
+    (distinct_text distinct
+    ++ (separated word.Comma (map out_text outs) ++ (word_text word.From ++ after_from from joins condition keys limit offset rest)))
 
 -- the pieces of rows
 pieces : (s d o f t j w k l n r : List ℕ) → (s ++ (d ++ (o ++ (f ++ (t ++ (j ++ (w ++ (k ++ (l ++ n))))))))) ++ r ≡ s ++ (d ++ (o ++ (f ++ (t ++ (j ++ (w ++ (k ++ (l ++ (n ++ r)))))))))
@@ -200,8 +205,8 @@ rows_parts : (distinct : List ExprTree) (outs : List OutTree) (from : FromTree) 
     → select_text (tree.rows distinct outs from joins condition keys limit offset) ++ rest ≡ parts distinct outs from joins condition keys limit offset rest
 rows_parts distinct outs from joins condition keys limit offset rest =
     pieces (word_text word.Select) (distinct_text distinct) (separated word.Comma (map out_text outs)) (word_text word.From)
-      (from_text from) (each_after word.LateralJoin (join_texts joins)) (filter_text condition) (keys_text keys)
-      (number_text word.Limit limit) (number_text word.Offset offset) rest
+    (from_text from) (each_after word.LateralJoin (join_texts joins)) (filter_text condition) (keys_text keys)
+    (number_text word.Limit limit) (number_text word.Offset offset) rest
 
 fold_parts : (o : OutTree) (s : SelectTree) (a rest : List ℕ) → select_text (tree.fold o s a) ++ rest ≡ parts [] (o ∷ []) (tree.sub s a) tree.no_join tree.no_filter [] None None rest
 fold_parts o s a rest = simp (append_assoc, append-nil)
@@ -213,7 +218,7 @@ distinct_not_one t rest = refl
 -- a select begins with DISTINCT ON or an output, so it is not One
 parts_not_one : (distinct : List ExprTree) (outs : List OutTree) (from : FromTree) (joins : JoinTrees) (condition : FilterTree)
     (keys : List OrderTree) (limit offset : Option ℕ) (rest : List ℕ) (d : ℕ)
-  → AllGood (GoodOut d) outs
+    → AllGood (GoodOut d) outs
     → after word.One (parts distinct outs from joins condition keys limit offset rest) ≡ None
 parts_not_one distinct [] from joins condition keys limit offset rest d good = absurd good
 parts_not_one [] (o ∷ os) from joins condition keys limit offset rest d good = outputs_not_one o os (after_from from joins condition keys limit offset rest)
@@ -225,7 +230,7 @@ select_not_one (tree.rows distinct outs from joins condition keys limit offset) 
 select_not_one (tree.fold o inner a) zero rest fits = absurd fits
 select_not_one (tree.fold o inner a) (suc d) rest fits =
     ap (after word.One) (fold_parts o inner a rest)
-      ∙ outputs_not_one o [] (after_from (tree.sub inner a) tree.no_join tree.no_filter [] None None rest)
+    ∙ outputs_not_one o [] (after_from (tree.sub inner a) tree.no_join tree.no_filter [] None None rest)
 
 -- ---- FROM and joins, by the depth
 
@@ -264,7 +269,7 @@ good_joins d (tree.join s a js) h = ((h.0, h.1), good_joins d js h.2)
 joins_deeper : (d : ℕ) (query : Reader SelectTree) → Query d query → JoinsAgain (suc d) query
 joins_deeper d query query_again js rest fits none =
     ap (λ t. clause_with word.LateralJoin word.LateralJoin (join_with query) (t ++ rest))
-      (ap (each_after word.LateralJoin) (join_texts-list js) ∙ each_is_clause word.LateralJoin (map join_text (join_list js)))
+    (ap (each_after word.LateralJoin) (join_texts-list js) ∙ each_is_clause word.LateralJoin (map join_text (join_list js)))
     ∙ some_joins_again d query query_again (join_list js) rest (good_joins d js fits) none
 
 -- ---- selects
@@ -278,7 +283,7 @@ output_no_distinct o os rest =
 module _ (d : ℕ) (query : Reader SelectTree) (condition : Reader PredTree) (from_again : FromAgain d query) (joins_again : JoinsAgain d query) (condition_again : Condition d condition) where
   parts_again : (distinct : List ExprTree) (outs : List OutTree) (from : FromTree) (joins : JoinTrees) (f : FilterTree) (keys : List OrderTree) (limit offset : Option ℕ) (rest : List ℕ)
       → FitsDistinct d distinct → AllGood (GoodOut d) outs → FitsFrom from d → FitsJoins joins d → FitsFilter f d
-        → AllByRecursion (GoodOrder d) keys → is_count limit ≡ true → is_count offset ≡ true → Ends rest
+      → AllByRecursion (GoodOrder d) keys → is_count limit ≡ true → is_count offset ≡ true → Ends rest
       → select_with d query condition (parts distinct outs from joins f keys limit offset rest) ≡ Some (shaped (tree.rows distinct outs from joins f keys limit offset), rest)
   unfolding select_with
   parts_again distinct [] from joins f keys limit offset rest fits_d good fits_from fits_joins fits_f fits_keys is_limit is_offset ends = absurd good
@@ -300,7 +305,7 @@ module _ (d : ℕ) (query : Reader SelectTree) (condition : Reader PredTree) (fr
 
   rows_again : (distinct : List ExprTree) (outs : List OutTree) (from : FromTree) (joins : JoinTrees) (f : FilterTree)
       (keys : List OrderTree) (limit offset : Option ℕ) (rest : List ℕ)
-    → FitsSelect (tree.rows distinct outs from joins f keys limit offset) d → Ends rest
+      → FitsSelect (tree.rows distinct outs from joins f keys limit offset) d → Ends rest
       → select_with d query condition (select_text (tree.rows distinct outs from joins f keys limit offset) ++ rest) ≡ Some (tree.rows distinct outs from joins f keys limit offset, rest)
   rows_again distinct outs from joins f keys limit offset rest fits ends =
       let s = tree.rows distinct outs from joins f keys limit offset in
@@ -319,7 +324,7 @@ module _ (d : ℕ) (query : Reader SelectTree) (condition : Reader PredTree) (fr
 query_zero : Query zero (select_with zero nothing (pred_with nothing nothing))
 query_zero (tree.rows distinct outs from joins f keys limit offset) rest fits ends =
     rows_again zero nothing (pred_with nothing nothing) from_zero joins_zero pred_zero distinct outs from joins f keys limit offset rest
-      fits ends
+    fits ends
 query_zero (tree.fold o s a) rest fits ends = absurd fits
 
 query_deeper : (d : ℕ) (query : Reader SelectTree) (condition : Reader PredTree) → Query d query → Condition (suc d) condition → Query (suc d) (select_with (suc d) query condition)

@@ -25,7 +25,7 @@ use Rattle.hq_sql_text.proofs.Fits.{FitsDistinct}
 abbrev pub Ends : List ℕ → Type 0
 Ends rest =
     Free 34 rest × (after word.LateralJoin rest ≡ None) × (after word.Where rest ≡ None) × (after word.OrderBy rest ≡ None)
-      × (after word.Limit rest ≡ None) × (after word.Offset rest ≡ None) × NoDigit rest × (after word.Comma rest ≡ None)
+    × (after word.Limit rest ≡ None) × (after word.Offset rest ≡ None) × NoDigit rest × (after word.Comma rest ≡ None)
 
 pub close_as_ends : (rest : List ℕ) → Ends (word_text word.CloseAs ++ rest)
 unfolding word_text after
@@ -56,7 +56,7 @@ past_keys : (P : List ℕ → Type 0) (keys : List OrderTree) (rest : List ℕ) 
 past_keys P [] rest begins follows = follows
 past_keys P (k ∷ keys) rest begins follows =
     subst P (sym (append_assoc (word_text word.OrderBy) (separated word.Comma (map order_text (k ∷ keys))) rest))
-      (begins (separated word.Comma (map order_text (k ∷ keys)) ++ rest))
+    (begins (separated word.Comma (map order_text (k ∷ keys)) ++ rest))
 
 past_count : (w : Word) (P : List ℕ → Type 0) (n : Option ℕ) (rest : List ℕ) → ((t : List ℕ) → P (word_text w ++ t)) → P rest → P (number_text w n ++ rest)
 past_count w P None rest begins follows = follows
@@ -67,7 +67,7 @@ abbrev pub counts_text : (limit offset : Option ℕ) → List ℕ → List ℕ
 counts_text limit offset rest = number_text word.Limit limit ++ (number_text word.Offset offset ++ rest)
 
 past_counts : (P : List ℕ → Type 0) (limit offset : Option ℕ) (rest : List ℕ) → ((t : List ℕ) → P (word_text word.Limit ++ t))
-  → ((t : List ℕ) → P (word_text word.Offset ++ t)) → P rest → P (counts_text limit offset rest)
+    → ((t : List ℕ) → P (word_text word.Offset ++ t)) → P rest → P (counts_text limit offset rest)
 past_counts P limit offset rest at_limit at_offset follows = past_count word.Limit P limit (number_text word.Offset offset ++ rest) at_limit (past_count word.Offset P offset rest at_offset follows)
 
 -- behind the joins
@@ -75,13 +75,13 @@ abbrev pub behind_text : FilterTree → List OrderTree → (limit offset : Optio
 behind_text f keys limit offset rest = filter_text f ++ (keys_text keys ++ counts_text limit offset rest)
 
 pub free_behind_from : (js : JoinTrees) (f : FilterTree) (keys : List OrderTree) (limit offset : Option ℕ) (rest : List ℕ) → Free 34 rest
-  → Free 34 (each_after word.LateralJoin (join_texts js) ++ behind_text f keys limit offset rest)
+    → Free 34 (each_after word.LateralJoin (join_texts js) ++ behind_text f keys limit offset rest)
 unfolding word_text
 free_behind_from js f keys limit offset rest free =
     past_joins (Free 34) js (behind_text f keys limit offset rest) (λ t. refl)
-      (past_filter (Free 34) f (keys_text keys ++ counts_text limit offset rest) (λ t. refl)
-         (past_keys (Free 34) keys (counts_text limit offset rest) (λ t. refl)
-            (past_counts (Free 34) limit offset rest (λ t. refl) (λ t. refl) free)))
+    (past_filter (Free 34) f (keys_text keys ++ counts_text limit offset rest) (λ t. refl)
+    (past_keys (Free 34) keys (counts_text limit offset rest) (λ t. refl)
+    (past_counts (Free 34) limit offset rest (λ t. refl) (λ t. refl) free)))
 
 -- the word does not stand next
 abbrev pub Absent : Word → List ℕ → Type 0
@@ -92,14 +92,14 @@ unfolding word_text after
 no_join_behind f keys limit offset rest none =
     let w = word.LateralJoin in
     past_filter (Absent w) f (keys_text keys ++ counts_text limit offset rest) (λ t. refl)
-      (past_keys (Absent w) keys (counts_text limit offset rest) (λ t. refl)
-         (past_counts (Absent w) limit offset rest (λ t. refl) (λ t. refl) none))
+    (past_keys (Absent w) keys (counts_text limit offset rest) (λ t. refl)
+    (past_counts (Absent w) limit offset rest (λ t. refl) (λ t. refl) none))
 
 pub no_where_behind : (keys : List OrderTree) (limit offset : Option ℕ) (rest : List ℕ) → Absent word.Where rest → Absent word.Where (keys_text keys ++ counts_text limit offset rest)
 unfolding word_text after
 no_where_behind keys limit offset rest none =
     past_keys (Absent word.Where) keys (counts_text limit offset rest) (λ t. refl)
-      (past_counts (Absent word.Where) limit offset rest (λ t. refl) (λ t. refl) none)
+    (past_counts (Absent word.Where) limit offset rest (λ t. refl) (λ t. refl) none)
 
 no_order_behind : (limit offset : Option ℕ) (rest : List ℕ) → Absent word.OrderBy rest → Absent word.OrderBy (counts_text limit offset rest)
 unfolding word_text after
@@ -141,10 +141,12 @@ keys_clause d [] limit offset rest good ends = rw (no_order_behind limit offset 
 keys_clause d (k ∷ keys) limit offset rest good ends =
     let listed = separated word.Comma (map order_text (k ∷ keys)) in
     let later = counts_text limit offset rest in
-    rw
-      (append_assoc (word_text word.OrderBy) listed later, after_again word.OrderBy (listed ++ later),
-         keys_again d (expr_at d) (expr_again d) k keys later good.0 good.1 (no_comma_behind limit offset rest ends.7))
-      refl
+    rw (
+      append_assoc (word_text word.OrderBy) listed later,
+      after_again word.OrderBy (listed ++ later),
+      keys_again d (expr_at d) (expr_again d) k keys later good.0 good.1 (no_comma_behind limit offset rest ends.7),
+    )
+    refl
 
 -- ---- DISTINCT ON
 

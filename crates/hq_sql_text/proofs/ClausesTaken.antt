@@ -28,11 +28,11 @@ module _ {A : Type 0} (first between : Word) (item : Reader A) (spelled : A → 
   some_listed b (x ∷ xs) r = (ap (λ t. word_text first ++ t) r.0, r.1)
 
   pub clause_takes : Sound (all_many item between) (Spelled (list_text item between spelled Good) (AllGood Good))
-    → Sound (clause_with first between item) (Spelled clause_spelled (AllByRecursion Good))
+      → Sound (clause_with first between item) (Spelled clause_spelled (AllByRecursion Good))
   clause_takes items_take =
       sound_choose first (λ rest. all_many item between rest) (Spelled clause_spelled (AllByRecursion Good))
       (sound_wider (all_many item between) (Spelled (list_text item between spelled Good) (AllGood Good))
-         (λ b xs. Spelled clause_spelled (AllByRecursion Good) (word_text first ++ b) xs) some_listed items_take)
+      (λ b xs. Spelled clause_spelled (AllByRecursion Good) (word_text first ++ b) xs) some_listed items_take)
       (λ bytes. Some ([], bytes))
       (sound_pure [] (Spelled clause_spelled (AllByRecursion Good)) (refl, tt))
 
@@ -50,7 +50,7 @@ pub distinct_takes : (d : ℕ) → Sound (distinct_at d) (OneDistinct d)
 distinct_takes d =
     sound_choose word.DistinctOn (λ rest. below (closed_exprs word.CloseDistinct) d rest) (OneDistinct d)
     (sound_wider (below (closed_exprs word.CloseDistinct) d) (Spelled (closed_list_text word.CloseDistinct) (FitsClosed d))
-       (λ b es. OneDistinct d (word_text word.DistinctOn ++ b) es) (some_distinct d) (closed_exprs_take word.CloseDistinct d))
+    (λ b es. OneDistinct d (word_text word.DistinctOn ++ b) es) (some_distinct d) (closed_exprs_take word.CloseDistinct d))
     (λ bytes. Some ([], bytes))
     (sound_pure [] (OneDistinct d) (refl, tt))
 

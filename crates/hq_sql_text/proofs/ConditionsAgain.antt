@@ -131,7 +131,7 @@ op_again op.Gt rest = refl
 op_again op.Ge rest = refl
 
 op_alone : (o : Op) (rest : List ℕ)
-  → Absent word.IsNull (word_text (op_word o) ++ rest) × Absent word.In (word_text (op_word o) ++ rest)
+    → Absent word.IsNull (word_text (op_word o) ++ rest) × Absent word.In (word_text (op_word o) ++ rest)
     × Absent word.Like (word_text (op_word o) ++ rest) × Absent word.Ilike (word_text (op_word o) ++ rest)
 unfolding word_text after
 op_alone op.Eq rest = (refl, refl, refl, refl)
@@ -257,20 +257,21 @@ module _ (d : ℕ) (condition : Reader PredTree) (condition_again : Condition d 
   negated_again p rest fits = rw (after_again word.Not (pred_text p ++ (word_text word.Close ++ rest)), condition_again p (word_text word.Close ++ rest) fits, after_again word.Close rest) refl
 
   others_again : (w : Word) (first p : PredTree) (ps : List PredTree) (rest : List ℕ) → 0 < length (word_text w)
-    → Absent w (word_text word.Close ++ rest) → FitsPred p d → AllByRecursion (λ p. FitsPred p d) ps
+      → Absent w (word_text word.Close ++ rest) → FitsPred p d → AllByRecursion (λ p. FitsPred p d) ps
       → others_with condition w first (separated w (map pred_text (p ∷ ps)) ++ (word_text word.Close ++ rest)) ≡ Some (first ∷ p ∷ ps, rest)
   unfolding others_with
   others_again w first p ps rest some none fits good =
-      rw
-        (all_many_again condition w pred_text (λ p. FitsPred p d) (λ rest. Unit {0}) (λ x rest good u. condition_again x rest good)
-             (λ rest. tt) some p ps (word_text word.Close ++ rest) fits good tt none,
-           after_again word.Close rest)
-        refl
+      rw (
+        all_many_again condition w pred_text (λ p. FitsPred p d) (λ rest. Unit {0}) (λ x rest good u. condition_again x rest good)
+            (λ rest. tt) some p ps (word_text word.Close ++ rest) fits good tt none,
+        after_again word.Close rest,
+      )
+      refl
 
   all_again : (p q : PredTree) (ps : List PredTree) (rest : List ℕ) → FitsPred p d → FitsPred q d → AllByRecursion (λ p. FitsPred p d) ps
       → inside_with d condition
-          (pred_text p ++ (word_text word.And ++ (separated word.And (map pred_text (q ∷ ps)) ++ (word_text word.Close ++ rest))))
-        ≡ Some (tree.all_of (preds_of (p ∷ q ∷ ps)), rest)
+      (pred_text p ++ (word_text word.And ++ (separated word.And (map pred_text (q ∷ ps)) ++ (word_text word.Close ++ rest))))
+      ≡ Some (tree.all_of (preds_of (p ∷ q ∷ ps)), rest)
   unfolding inside_with joined_with
   all_again p q ps rest fits_p fits_q good =
       let later = separated word.And (map pred_text (q ∷ ps)) ++ (word_text word.Close ++ rest) in
@@ -279,19 +280,24 @@ module _ (d : ℕ) (condition : Reader PredTree) (condition_again : Condition d 
 
   any_again : (p q : PredTree) (ps : List PredTree) (rest : List ℕ) → FitsPred p d → FitsPred q d → AllByRecursion (λ p. FitsPred p d) ps
       → inside_with d condition
-          (pred_text p ++ (word_text word.Or ++ (separated word.Or (map pred_text (q ∷ ps)) ++ (word_text word.Close ++ rest))))
-        ≡ Some (tree.any_of (preds_of (p ∷ q ∷ ps)), rest)
+      (pred_text p ++ (word_text word.Or ++ (separated word.Or (map pred_text (q ∷ ps)) ++ (word_text word.Close ++ rest))))
+      ≡ Some (tree.any_of (preds_of (p ∷ q ∷ ps)), rest)
   unfolding inside_with joined_with
   any_again p q ps rest fits_p fits_q good =
       let later = separated word.Or (map pred_text (q ∷ ps)) ++ (word_text word.Close ++ rest) in
       let begins = or_member p later in
-      rw
-        (begins.0, begins.1, condition_again p (word_text word.Or ++ later) fits_p, or_alone later, after_again word.Or later,
-           others_again word.Or p q ps rest or_some (close_no_or rest) fits_q good)
-        refl
+      rw (
+        begins.0,
+        begins.1,
+        condition_again p (word_text word.Or ++ later) fits_p,
+        or_alone later,
+        after_again word.Or later,
+        others_again word.Or p q ps rest or_some (close_no_or rest) fits_q good,
+      )
+      refl
 
 exists_again : (d : ℕ) (query : Reader SelectTree) → Query d query → (s : SelectTree) (rest : List ℕ) → is_rows s ≡ true → FitsSelect s d
-  → exists_with query (select_text s ++ (word_text word.Close ++ rest)) ≡ Some (tree.exists s, rest)
+    → exists_with query (select_text s ++ (word_text word.Close ++ rest)) ≡ Some (tree.exists s, rest)
 unfolding exists_with
 exists_again d query query_again s rest rows fits = rw (query_again s (word_text word.Close ++ rest) fits (close_ends rest), after_again word.Close rest, rows) refl
 
@@ -318,7 +324,7 @@ module _ (d : ℕ) (condition : Reader PredTree) (query : Reader SelectTree) (co
   in_parentheses p inner text rest is read = ap deeper is ∙ opened (inside_with d condition) query inner ∙ read
 
   asked_again : (p : PredTree) (l : ExprTree) (later text rest : List ℕ) → text ≡ word_text word.Open ++ (expr_text l ++ later)
-    → FitsExpr l d → Asks later → test_with d l later ≡ Some (p, rest) → deeper text ≡ Some (p, rest)
+      → FitsExpr l d → Asks later → test_with d l later ≡ Some (p, rest) → deeper text ≡ Some (p, rest)
   asked_again p l later text rest is fits asks read = in_parentheses p (expr_text l ++ later) text rest is (asked d condition condition_again l later fits asks ∙ read)
 
   pub pred_deeper : Condition (suc d) deeper
@@ -338,7 +344,7 @@ module _ (d : ℕ) (condition : Reader PredTree) (query : Reader SelectTree) (co
       asked_again (tree.within e es) e later (pred_text (tree.within e es) ++ rest) rest (simp append_assoc) fits.0 (in_asks (closed_list_text word.CloseIn es ++ rest)) (in_again d e rest es fits.1)
   pred_deeper (tree.is_null e) rest fits =
       asked_again (tree.is_null e) e (word_text word.IsNull ++ rest) (pred_text (tree.is_null e) ++ rest) rest (simp append_assoc) fits
-        (is_null_asks rest) (is_null_again d e rest)
+      (is_null_asks rest) (is_null_again d e rest)
   pred_deeper (tree.negation p) rest fits =
       let inner = word_text word.Not ++ (pred_text p ++ (word_text word.Close ++ rest)) in
       in_parentheses (tree.negation p) inner (pred_text (tree.negation p) ++ rest) rest (simp append_assoc) (negated_again d condition condition_again p rest fits)
@@ -348,7 +354,7 @@ module _ (d : ℕ) (condition : Reader PredTree) (query : Reader SelectTree) (co
       let listed = separated word.And (map pred_text (q ∷ pred_list ps)) in
       let inner = pred_text p ++ (word_text word.And ++ (listed ++ (word_text word.Close ++ rest))) in
       let texts : pred_text (tree.all_of (tree.pred p (tree.pred q ps))) ++ rest
-        ≡ (word_text word.Open ++ (separated word.And (map pred_text (p ∷ q ∷ pred_list ps)) ++ word_text word.Close)) ++ rest =
+      ≡ (word_text word.Open ++ (separated word.And (map pred_text (p ∷ q ∷ pred_list ps)) ++ word_text word.Close)) ++ rest =
       ap (λ ts. (word_text word.Open ++ (separated word.And (pred_text p ∷ pred_text q ∷ ts) ++ word_text word.Close)) ++ rest) (pred_texts-list ps) in
       let regrouped : (word_text word.Open ++ (separated word.And (map pred_text (p ∷ q ∷ pred_list ps)) ++ word_text word.Close)) ++ rest ≡ word_text word.Open ++ inner = simp append_assoc in
       let tree_is : preds_of (p ∷ q ∷ pred_list ps) ≡ tree.pred p (tree.pred q ps) = ap (λ qs. tree.pred p (tree.pred q qs)) (preds_of-pred_list ps) in
@@ -378,7 +384,7 @@ module _ (d : ℕ) (condition : Reader PredTree) (condition_again : Condition d 
   filter_again (tree.filter p) rest fits none = rw (append_assoc (word_text word.Where) (pred_text p) rest, after_again word.Where (pred_text p ++ rest), condition_again p rest fits) refl
 
   pub end_again : (f : FilterTree) (keys : List OrderTree) (limit offset : Option ℕ) (rest : List ℕ) → FitsFilter f d
-    → AllByRecursion (GoodOrder d) keys → is_count limit ≡ true → is_count offset ≡ true → Ends rest
+      → AllByRecursion (GoodOrder d) keys → is_count limit ≡ true → is_count offset ≡ true → Ends rest
       → end_with d condition (behind_text f keys limit offset rest) ≡ Some (record { condition = f; keys = keys; limit = limit; offset = offset }, rest)
   unfolding end_with
   end_again f keys limit offset rest fits good is_limit is_offset ends =

@@ -82,13 +82,13 @@ module _ (d : ℕ) (l : ExprTree) (fits : FitsExpr l d) where
       (λ o u. sound_last (argument_with (expr_at d)) (λ r. tree.compare l o r) closed_text (λ e. FitsExpr e d) (λ b p. Asked (op_text o ++ b) p) (λ r good. (refl, (fits, good))) (closed_expr_takes d))
 
   ilike_takes : Sound
-    (λ bytes. choose (after word.Ilike bytes) (λ rest. argument_with (expr_at d) rest >>= λ r. Some (tree.like l r.0 true, r.1))
-       (op_at bytes >>= λ o. argument_with (expr_at d) o.1 >>= λ r. Some (tree.compare l o.0 r.0, r.1)))
-    Asked
+      (λ bytes. choose (after word.Ilike bytes) (λ rest. argument_with (expr_at d) rest >>= λ r. Some (tree.like l r.0 true, r.1))
+      (op_at bytes >>= λ o. argument_with (expr_at d) o.1 >>= λ r. Some (tree.compare l o.0 r.0, r.1)))
+      Asked
   ilike_takes =
       sound_choose word.Ilike (λ rest. argument_with (expr_at d) rest >>= λ r. Some (tree.like l r.0 true, r.1)) Asked
       (sound_last (argument_with (expr_at d)) (λ r. tree.like l r true) closed_text (λ e. FitsExpr e d)
-         (λ b p. Asked (word_text word.Ilike ++ b) p) (λ r good. (refl, (fits, good))) (closed_expr_takes d))
+      (λ b p. Asked (word_text word.Ilike ++ b) p) (λ r good. (refl, (fits, good))) (closed_expr_takes d))
       (λ bytes. op_at bytes >>= λ o. argument_with (expr_at d) o.1 >>= λ r. Some (tree.compare l o.0 r.0, r.1))
       compared_takes
 
@@ -97,18 +97,18 @@ module _ (d : ℕ) (l : ExprTree) (fits : FitsExpr l d) where
   test_takes =
       sound_choose_end word.IsNull (tree.is_null l) Asked (refl, fits)
       (λ bytes. choose (after word.In bytes) (λ rest. below (closed_exprs word.CloseIn) d rest >>= λ es. Some (tree.within l es.0, es.1))
-        (choose (after word.Like bytes) (λ rest. argument_with (expr_at d) rest >>= λ r. Some (tree.like l r.0 false, r.1))
+      (choose (after word.Like bytes) (λ rest. argument_with (expr_at d) rest >>= λ r. Some (tree.like l r.0 false, r.1))
       (choose (after word.Ilike bytes) (λ rest. argument_with (expr_at d) rest >>= λ r. Some (tree.like l r.0 true, r.1)) (op_at bytes >>= λ o. argument_with (expr_at d) o.1 >>= λ r. Some (tree.compare l o.0 r.0, r.1)))))
       (sound_choose word.In (λ rest. below (closed_exprs word.CloseIn) d rest >>= λ es. Some (tree.within l es.0, es.1)) Asked
       (sound_last (below (closed_exprs word.CloseIn) d) (λ es. tree.within l es) (closed_list_text word.CloseIn) (FitsClosed d)
-         (λ b p. Asked (word_text word.In ++ b) p) (λ es good. (refl, (fits, good))) (closed_exprs_take word.CloseIn d))
+      (λ b p. Asked (word_text word.In ++ b) p) (λ es good. (refl, (fits, good))) (closed_exprs_take word.CloseIn d))
       (λ bytes. choose (after word.Like bytes) (λ rest. argument_with (expr_at d) rest >>= λ r. Some (tree.like l r.0 false, r.1))
       (choose (after word.Ilike bytes) (λ rest. argument_with (expr_at d) rest >>= λ r. Some (tree.like l r.0 true, r.1)) (op_at bytes >>= λ o. argument_with (expr_at d) o.1 >>= λ r. Some (tree.compare l o.0 r.0, r.1))))
       (sound_choose word.Like (λ rest. argument_with (expr_at d) rest >>= λ r. Some (tree.like l r.0 false, r.1)) Asked
       (sound_last (argument_with (expr_at d)) (λ r. tree.like l r false) closed_text (λ e. FitsExpr e d)
-         (λ b p. Asked (word_text word.Like ++ b) p) (λ r good. (refl, (fits, good))) (closed_expr_takes d))
+      (λ b p. Asked (word_text word.Like ++ b) p) (λ r good. (refl, (fits, good))) (closed_expr_takes d))
       (λ bytes. choose (after word.Ilike bytes) (λ rest. argument_with (expr_at d) rest >>= λ r. Some (tree.like l r.0 true, r.1))
-         (op_at bytes >>= λ o. argument_with (expr_at d) o.1 >>= λ r. Some (tree.compare l o.0 r.0, r.1)))
+      (op_at bytes >>= λ o. argument_with (expr_at d) o.1 >>= λ r. Some (tree.compare l o.0 r.0, r.1)))
       ilike_takes))
 
 tested_takes : (d : ℕ) → Sound (tested_at d) (Inside d)
@@ -132,7 +132,7 @@ module _ (d : ℕ) (condition : Reader PredTree) (condition_takes : Sound condit
   Members w first b ps = (pred_text first ++ (word_text w ++ b) ≡ separated w (map pred_text ps) ++ word_text word.Close) × AtLeastTwo (preds_of ps) × FitsPreds (preds_of ps) d
 
   members_of : (w : Word) (first : PredTree) (ps : List PredTree) → FitsPred first d → AllGood (λ p. FitsPred p d) ps
-    → Members w first (separated w (map pred_text ps) ++ word_text word.Close) (first ∷ ps)
+      → Members w first (separated w (map pred_text ps) ++ word_text word.Close) (first ∷ ps)
   members_of w first [] fits good = absurd good
   members_of w first (p ∷ ps) fits good = (simp append_assoc, tt, (fits, (good.0, fits_preds d ps good.1)))
 
@@ -140,7 +140,7 @@ module _ (d : ℕ) (condition : Reader PredTree) (condition_takes : Sound condit
   unfolding others_with
   others_take w first fits =
       sound_next (all_many condition w) (λ ps bytes. after word.Close bytes >>= λ rest. Some (first ∷ ps, rest))
-        (list_text condition w pred_text (λ p. FitsPred p d)) (AllGood (λ p. FitsPred p d)) (Members w first)
+      (list_text condition w pred_text (λ p. FitsPred p d)) (AllGood (λ p. FitsPred p d)) (Members w first)
       (all_many_takes condition w pred_text (λ p. FitsPred p d) condition_takes)
       (λ ps good. sound_end word.Close (first ∷ ps) (λ b x. Members w first (separated w (map pred_text ps) ++ b) x) (members_of w first ps fits good))
 
@@ -155,12 +155,12 @@ module _ (d : ℕ) (condition : Reader PredTree) (condition_takes : Sound condit
   joined_takes =
       sound_next condition
       (λ p bytes. choose (after word.And bytes)
-         (λ rest. others_with condition word.And p rest >>= λ ps. Some (tree.all_of (preds_of ps.0), ps.1))
-         (after word.Or bytes >>= λ rest. others_with condition word.Or p rest >>= λ ps. Some (tree.any_of (preds_of ps.0), ps.1)))
+      (λ rest. others_with condition word.And p rest >>= λ ps. Some (tree.all_of (preds_of ps.0), ps.1))
+      (after word.Or bytes >>= λ rest. others_with condition word.Or p rest >>= λ ps. Some (tree.any_of (preds_of ps.0), ps.1)))
       pred_text (λ p. FitsPred p d) (Inside d) condition_takes
       (λ p fits. sound_choose word.And (λ rest. others_with condition word.And p rest >>= λ ps. Some (tree.all_of (preds_of ps.0), ps.1)) (λ b x. Inside d (pred_text p ++ b) x)
       (sound_made (others_with condition word.And p) (λ ps. tree.all_of (preds_of ps)) (Members word.And p)
-         (λ b x. Inside d (pred_text p ++ (word_text word.And ++ b)) x) (all_made p) (others_take word.And p fits))
+      (λ b x. Inside d (pred_text p ++ (word_text word.And ++ b)) x) (all_made p) (others_take word.And p fits))
       (λ bytes. after word.Or bytes >>= λ rest. others_with condition word.Or p rest >>= λ ps. Some (tree.any_of (preds_of ps.0), ps.1))
       (sound_word word.Or (λ rest. others_with condition word.Or p rest >>= λ ps. Some (tree.any_of (preds_of ps.0), ps.1)) (λ b x. Inside d (pred_text p ++ b) x)
       (sound_made (others_with condition word.Or p) (λ ps. tree.any_of (preds_of ps)) (Members word.Or p) (λ b x. Inside d (pred_text p ++ (word_text word.Or ++ b)) x) (any_made p) (others_take word.Or p fits))))
@@ -180,13 +180,13 @@ module _ (d : ℕ) (condition : Reader PredTree) (condition_takes : Sound condit
 -- ---- EXISTS
 
 module _ (d : ℕ) (query : Reader SelectTree) (Q : SelectTree → Type 0) (query_takes : Sound query (Spelled select_text Q))
-  (exists_fits : (s : SelectTree) → Q s → is_rows s ≡ true → FitsPred (tree.exists s) d) where
+    (exists_fits : (s : SelectTree) → Q s → is_rows s ≡ true → FitsPred (tree.exists s) d) where
   -- behind EXISTS
   abbrev Existing : List ℕ → PredTree → Type 0
   Existing b p = OnePred d (word_text word.Exists ++ b) p
 
   rows_taken : (s : SelectTree) (rest : List ℕ) → Q s → (b : Bool) → is_rows s ≡ b
-    → Taken (λ c p. Existing (select_text s ++ (word_text word.Close ++ c)) p) rest (cond b (Some (tree.exists s, rest)) None)
+      → Taken (λ c p. Existing (select_text s ++ (word_text word.Close ++ c)) p) rest (cond b (Some (tree.exists s, rest)) None)
   rows_taken s rest good true e = ([], refl, (ap (λ t. word_text word.Exists ++ (select_text s ++ t)) (append-nil (word_text word.Close)), exists_fits s good e))
   rows_taken s rest good false e = tt
 
@@ -195,11 +195,11 @@ module _ (d : ℕ) (query : Reader SelectTree) (Q : SelectTree → Type 0) (quer
   exists_takes =
       sound_next query (λ s bytes. after word.Close bytes >>= λ rest. cond (is_rows s) (Some (tree.exists s, rest)) None) select_text Q Existing query_takes
       (λ s good. sound_word word.Close (λ rest. cond (is_rows s) (Some (tree.exists s, rest)) None) (λ b p. Existing (select_text s ++ b) p)
-         (record { takes = λ rest. rows_taken s rest good (is_rows s) refl }))
+      (record { takes = λ rest. rows_taken s rest good (is_rows s) refl }))
 
 pub pred_with_takes : (d : ℕ) (inside : Reader PredTree) (query : Reader SelectTree) (Q : SelectTree → Type 0)
-  → Sound inside (λ b p. OnePred d (word_text word.Open ++ b) p) → Sound query (Spelled select_text Q)
-  → ((s : SelectTree) → Q s → is_rows s ≡ true → FitsPred (tree.exists s) d)
+    → Sound inside (λ b p. OnePred d (word_text word.Open ++ b) p) → Sound query (Spelled select_text Q)
+    → ((s : SelectTree) → Q s → is_rows s ≡ true → FitsPred (tree.exists s) d)
     → Sound (pred_with inside query) (OnePred d)
 unfolding pred_with
 pred_with_takes d inside query Q sound_inside query_takes exists_fits =
@@ -226,13 +226,13 @@ abbrev keys_text : List OrderTree → List ℕ
 keys_text keys = clause_text word.OrderBy word.Comma (map order_text keys)
 
 counts_take : (d : ℕ) (p : FilterTree) (keys : List OrderTree) → FitsFilter p d → AllByRecursion (GoodOrder d) keys
-  → Sound (counts_with p keys) (λ b e. OneEnd d (filter_text p ++ (keys_text keys ++ b)) e)
+    → Sound (counts_with p keys) (λ b e. OneEnd d (filter_text p ++ (keys_text keys ++ b)) e)
 unfolding counts_with
 counts_take d p keys fits good =
     sound_next (count_at word.Limit)
-      (λ limit bytes. count_at word.Offset bytes >>= λ offset. Some
-         (record { condition = p; keys = keys; limit = limit; offset = offset.0 }, offset.1))
-      (number_text word.Limit) (λ n. is_count n ≡ true)
+    (λ limit bytes. count_at word.Offset bytes >>= λ offset. Some
+    (record { condition = p; keys = keys; limit = limit; offset = offset.0 }, offset.1))
+    (number_text word.Limit) (λ n. is_count n ≡ true)
     (λ b e. OneEnd d (filter_text p ++ (keys_text keys ++ b)) e) (count_takes word.Limit)
     (λ limit is_limit. sound_last (count_at word.Offset) (λ offset. record { condition = p; keys = keys; limit = limit; offset = offset }) (number_text word.Offset) (λ n. is_count n ≡ true)
     (λ b e. OneEnd d (filter_text p ++ (keys_text keys ++ (number_text word.Limit limit ++ b))) e) (λ offset is_offset. (refl, (fits, good, is_limit, is_offset))) (count_takes word.Offset))
@@ -252,10 +252,10 @@ module _ (d : ℕ) (condition : Reader PredTree) (condition_takes : Sound condit
   unfolding end_with
   end_takes =
       sound_next (filter_with condition)
-        (λ p bytes. clause_with word.OrderBy word.Comma (order_with (expr_at d)) bytes >>= λ keys. counts_with p keys.0 keys.1) filter_text
-        (λ f. FitsFilter f d) (OneEnd d) filter_takes
+      (λ p bytes. clause_with word.OrderBy word.Comma (order_with (expr_at d)) bytes >>= λ keys. counts_with p keys.0 keys.1) filter_text
+      (λ f. FitsFilter f d) (OneEnd d) filter_takes
       (λ p fits. sound_next (clause_with word.OrderBy word.Comma (order_with (expr_at d))) (λ keys bytes. counts_with p keys bytes)
-        (clause_spelled word.OrderBy word.Comma (order_with (expr_at d)) order_text (GoodOrder d)) (AllByRecursion (GoodOrder d))
-        (λ b e. OneEnd d (filter_text p ++ b) e)
+      (clause_spelled word.OrderBy word.Comma (order_with (expr_at d)) order_text (GoodOrder d)) (AllByRecursion (GoodOrder d))
+      (λ b e. OneEnd d (filter_text p ++ b) e)
       (clause_takes word.OrderBy word.Comma (order_with (expr_at d)) order_text (GoodOrder d) (orders_take d))
       (λ keys good. counts_take d p keys fits good))

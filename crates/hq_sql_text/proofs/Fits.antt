@@ -25,7 +25,7 @@ abbrev mutual
   pub FitsSelect : SelectTree → ℕ → Type 0
   FitsSelect (tree.rows distinct outs from joins condition keys limit offset) d =
       FitsDistinct d distinct × AllGood (GoodOut d) outs × FitsFrom from d × FitsJoins joins d × FitsFilter condition d
-        × AllByRecursion (GoodOrder d) keys × (is_count limit ≡ true) × (is_count offset ≡ true)
+      × AllByRecursion (GoodOrder d) keys × (is_count limit ≡ true) × (is_count offset ≡ true)
       × (reads_as_fold (tree.rows distinct outs from joins condition keys limit offset) ≡ false)
   FitsSelect (tree.fold o inner alias) zero = ⊥
   FitsSelect (tree.fold o inner alias) (suc d) = GoodOut (suc d) o × (holds_agg o.value ≡ true) × (is_rows inner ≡ true) × FitsSelect inner d × IsText alias

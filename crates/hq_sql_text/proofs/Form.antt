@@ -63,10 +63,10 @@ mutual
       let f2 = and_both (list_all is_expr distinct && nat_le 1 (length outs)) outs_form f3.0 in
       let f1 = and_both (list_all is_expr distinct) (nat_le 1 (length outs)) f2.0 in
       let v7 =
-          and_both
-            (list_all expr_fits distinct && list_all out_fits outs && from_fits from && joins_fit joins && filter_fits condition
-               && list_all order_fits keys && is_count limit)
-            (is_count offset) fits in
+      and_both
+      (list_all expr_fits distinct && list_all out_fits outs && from_fits from && joins_fit joins && filter_fits condition
+      && list_all order_fits keys && is_count limit)
+      (is_count offset) fits in
       let v6 = and_both (list_all expr_fits distinct && list_all out_fits outs && from_fits from && joins_fit joins && filter_fits condition && list_all order_fits keys) (is_count limit) v7.0 in
       let v5 = and_both (list_all expr_fits distinct && list_all out_fits outs && from_fits from && joins_fit joins && filter_fits condition) (list_all order_fits keys) v6.0 in
       let v4 = and_both (list_all expr_fits distinct && list_all out_fits outs && from_fits from && joins_fit joins) (filter_fits condition) v5.0 in
@@ -228,9 +228,11 @@ mutual
       let k = expr_told e d h.0 in
       let m = closed_told d es h.1 in
       let le : expr_depth e ≤ d = k.1 in
-      let more : 1 + greatest (map expr_depth es) ≤ d = m.2 in
-      (both_and (is_expr e && nat_le 1 (length es)) (list_all is_expr es) (both_and (is_expr e) (nat_le 1 (length es)) k.0 m.0) m.1,
-         omega arith, both_and (expr_fits e) (list_all expr_fits es) k.2 m.3)
+      let more : 1 + greatest (map expr_depth es) ≤ d = m.2 in (
+        both_and (is_expr e && nat_le 1 (length es)) (list_all is_expr es) (both_and (is_expr e) (nat_le 1 (length es)) k.0 m.0) m.1,
+        omega arith,
+        both_and (expr_fits e) (list_all expr_fits es) k.2 m.3,
+      )
   pred_told (tree.is_null e) zero h = absurd h
   pred_told (tree.is_null e) (suc d) h = let k = expr_told e d h in let le : expr_depth e ≤ d = k.1 in (k.0, omega arith, k.2)
   pred_told (tree.negation p) zero h = absurd h
@@ -238,11 +240,11 @@ mutual
   pred_told (tree.all_of ps) zero h = absurd h
   pred_told (tree.all_of ps) (suc d) h =
       let k = preds_told ps d h.1 in let le : preds_depth ps
-        ≤ d = k.1 in (both_and (nat_le 2 (length (pred_list ps))) (are_preds ps) (two_told ps h.0) k.0, omega arith, k.2)
+      ≤ d = k.1 in (both_and (nat_le 2 (length (pred_list ps))) (are_preds ps) (two_told ps h.0) k.0, omega arith, k.2)
   pred_told (tree.any_of ps) zero h = absurd h
   pred_told (tree.any_of ps) (suc d) h =
       let k = preds_told ps d h.1 in let le : preds_depth ps
-        ≤ d = k.1 in (both_and (nat_le 2 (length (pred_list ps))) (are_preds ps) (two_told ps h.0) k.0, omega arith, k.2)
+      ≤ d = k.1 in (both_and (nat_le 2 (length (pred_list ps))) (are_preds ps) (two_told ps h.0) k.0, omega arith, k.2)
   pred_told (tree.exists s) zero h = absurd h
   pred_told (tree.exists s) (suc d) h = let k = select_told s d h.1 in let le : select_depth s ≤ d = k.1 in (both_and (is_rows s) (is_select s) h.0 k.0, omega arith, k.2)
 

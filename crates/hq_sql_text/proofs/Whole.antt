@@ -25,7 +25,7 @@ ended true x y e = (refl, cc)
 ended false x y e = absurd cc
 
 whole_by : (d : ℕ) (bytes : List ℕ) (s : SelectTree) (r : Option (SelectTree × List ℕ)) → Taken (OneSelect d) bytes r
-  → (r >>= λ x. cond (eqb (length x.1) 0) (Some x.0) None) ≡ Some s → (bytes ≡ select_text s) × FitsSelect s d
+    → (r >>= λ x. cond (eqb (length x.1) 0) (Some x.0) None) ≡ Some s → (bytes ≡ select_text s) × FitsSelect s d
 whole_by d bytes s None taken e = absurd cc
 whole_by d bytes s (Some (t, rest)) (front, is, r) e =
     let k = ended (eqb (length rest) 0) t s e in

@@ -77,12 +77,16 @@ pub(crate) fn counts_of(
     bytes: &[u8],
 ) -> Result<(Box<End>, &[u8]), ReadRefusal>
     ensures { Reads
-          (λ x.
-             (record
-                  { condition = filter_of (option_map (λ p. pred_view p.value) x.0.value.filter); keys = map order_view x.0.value.order.items;
-                     limit = x.0.value.limit; offset = x.0.value.offset },
-                x.1.now))
-          result (counts_with (filter_of (option_map (λ p. pred_view p.value) filter)) (map order_view order.items) bytes.now) }
+        (λ x. (
+          record {
+            condition = filter_of (option_map (λ p. pred_view p.value) x.0.value.filter);
+            keys = map order_view x.0.value.order.items;
+            limit = x.0.value.limit;
+            offset = x.0.value.offset;
+          },
+          x.1.now,
+        ))
+        result (counts_with (filter_of (option_map (λ p. pred_view p.value) filter)) (map order_view order.items) bytes.now) }
 {
     let (limit, rest) = count_clause(alloc, Word::Limit, bytes)?;
     let (offset, rest) = count_clause(alloc, Word::Offset, rest)?;
@@ -116,12 +120,13 @@ pub(crate) fn rows_of<'a>(
     rest: &'a [u8],
 ) -> Result<(Box<Select>, &'a [u8]), ReadRefusal>
     ensures { Reads {Y = SelectTree × List ℕ} (λ x. (select_view x.0.value, x.1.now)) result
-          (Some
-             (shaped
-                  (tree.rows (map expr_view distinct.items) (map out_view outs.items) (from_view from.value)
-                     (joins_of (map join_view joins.items)) (filter_of (option_map (λ p. pred_view p.value) end.value.filter))
-                     (map order_view end.value.order.items) end.value.limit end.value.offset),
-                rest.now)) }
+        (Some (
+          shaped
+              (tree.rows (map expr_view distinct.items) (map out_view outs.items) (from_view from.value)
+              (joins_of (map join_view joins.items)) (filter_of (option_map (λ p. pred_view p.value) end.value.filter))
+              (map order_view end.value.order.items) end.value.limit end.value.offset),
+          rest.now,
+        )) }
 {
     let End {
         filter,

@@ -56,12 +56,12 @@ fn put_outputs(
     outs: &OutList,
 ) -> Result<(), Memory>
     ensures { OnOk result
-          (out.new.items
-             ≡ out.old.items
-               ++
-                 (word_text Word.Select
-                    ++
-                      (distinct_text (map expr_view distinct.now.items) ++ separated Word.Comma (map out_text (map out_view outs.now.items))))) }
+        (out.new.items
+        ≡ out.old.items
+        ++
+        (word_text Word.Select
+        ++
+        (distinct_text (map expr_view distinct.now.items) ++ separated Word.Comma (map out_text (map out_view outs.now.items))))) }
 {
     put_word(out, Word::Select)?;
     put_distinct(alloc, out, distinct)?;
@@ -77,11 +77,11 @@ fn put_end(
     offset: Option<u64>,
 ) -> Result<(), Memory>
     ensures { OnOk result
-          (out.new.items
-             ≡ out.old.items
-               ++
-                 (clause_text Word.OrderBy Word.Comma (map order_text (map order_view keys.now.items))
-                    ++ (number_text Word.Limit limit ++ number_text Word.Offset offset))) }
+        (out.new.items
+        ≡ out.old.items
+        ++
+        (clause_text Word.OrderBy Word.Comma (map order_text (map order_view keys.now.items))
+        ++ (number_text Word.Limit limit ++ number_text Word.Offset offset))) }
 {
     put_order_by(alloc, out, keys)?;
     put_count(alloc, out, Word::Limit, limit)?;
@@ -237,11 +237,11 @@ fn put_two(
     right: &Expr,
 ) -> Result<(), Memory>
     ensures { OnOk result
-          (out.new.items
-             ≡ out.old.items
-               ++
-                 (word_text Word.Open
-                    ++ (expr_text (expr_view left.now) ++ (word_text word ++ (expr_text (expr_view right.now) ++ word_text Word.Close))))) }
+        (out.new.items
+        ≡ out.old.items
+        ++
+        (word_text Word.Open
+        ++ (expr_text (expr_view left.now) ++ (word_text word ++ (expr_text (expr_view right.now) ++ word_text Word.Close))))) }
 {
     put_word(out, Word::Open)?;
     put_expr(alloc, out, left)?;
@@ -252,15 +252,15 @@ fn put_two(
 
 fn put_within(alloc: Global, out: &mut Vec<u8>, value: &Expr, list: &ExprList) -> Result<(), Memory>
     ensures { OnOk result
-          (out.new.items
-             ≡ out.old.items
-               ++
-                 (word_text Word.Open
-                    ++
-                      (expr_text (expr_view value.now)
-                         ++
-                           (word_text Word.In
-                              ++ (separated Word.Comma (map expr_text (map expr_view list.now.items)) ++ word_text Word.CloseIn))))) }
+        (out.new.items
+        ≡ out.old.items
+        ++
+        (word_text Word.Open
+        ++
+        (expr_text (expr_view value.now)
+        ++
+        (word_text Word.In
+        ++ (separated Word.Comma (map expr_text (map expr_view list.now.items)) ++ word_text Word.CloseIn))))) }
 {
     put_word(out, Word::Open)?;
     put_expr(alloc, out, value)?;

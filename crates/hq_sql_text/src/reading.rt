@@ -248,12 +248,16 @@ fn join_clause(alloc: Global, depth: u32, bytes: &[u8]) -> Result<(JoinList, &[u
 #[tactic(auto, unfolding(crate::specs::Reading::end_with))]
 fn end_of(alloc: Global, depth: u32, bytes: &[u8]) -> Result<(Box<End>, &[u8]), ReadRefusal>
     ensures { Reads
-          (λ x.
-             (record
-                  { condition = filter_of (option_map (λ p. pred_view p.value) x.0.value.filter); keys = map order_view x.0.value.order.items;
-                     limit = x.0.value.limit; offset = x.0.value.offset },
-                x.1.now))
-          result (end_with depth (pred_with (below inside_at depth) (below select_at depth)) bytes.now) }
+        (λ x. (
+          record {
+            condition = filter_of (option_map (λ p. pred_view p.value) x.0.value.filter);
+            keys = map order_view x.0.value.order.items;
+            limit = x.0.value.limit;
+            offset = x.0.value.offset;
+          },
+          x.1.now,
+        ))
+        result (end_with depth (pred_with (below inside_at depth) (below select_at depth)) bytes.now) }
 {
     let (filter, rest) = filter_clause(alloc, depth, bytes)?;
     let (order, rest) = order_clause(alloc, depth, rest)?;

@@ -46,7 +46,7 @@ next_order os i o lt is =
 
 -- a pair of those that are left
 pub next_pair : (ps : List ExprPair) (i : ℕ) (p : ExprPair) → i < length ps → p ≡ get_or ps i p
-  → pairs_of (map pair_view (drop i ps)) ≡ tree.pair p.name (expr_view p.value) (pairs_of (map pair_view (drop (i + 1) ps)))
+    → pairs_of (map pair_view (drop i ps)) ≡ tree.pair p.name (expr_view p.value) (pairs_of (map pair_view (drop (i + 1) ps)))
 next_pair ps i p lt is =
     ap (λ xs. pairs_of (map pair_view xs)) (next_item ps i p lt is)
     ∙ ap (λ (seen : PairTree). tree.pair seen.name seen.value (pairs_of (map pair_view (drop (i + 1) ps)))) (view_pair p)
@@ -60,15 +60,15 @@ pub all_pass : {A B : Type 0} (p : B → Bool) (view : A → B) (xs : List A) (i
     → list_all p (map view (drop i xs)) ≡ list_all p (map view xs) → p (view x) ≡ true → list_all p (map view (drop (i + 1) xs)) ≡ list_all p (map view xs)
 all_pass p view xs i x lt is so_far holds =
     passes (p (view x)) (list_all p (map view (drop (i + 1) xs))) (list_all p (map view (drop i xs))) (list_all p (map view xs))
-      (ap (λ ys. list_all p (map view ys)) (next_item xs i x lt is)) so_far holds
+    (ap (λ ys. list_all p (map view ys)) (next_item xs i x lt is)) so_far holds
 
 -- and where it fails, all do
 pub all_fail : {A B : Type 0} (p : B → Bool) (view : A → B) (xs all : List A) (i : ℕ) (x : A) → xs ≡ all → i < length xs → x ≡ get_or xs i x
     → list_all p (map view (drop i xs)) ≡ list_all p (map view xs) → p (view x) ≡ false → false ≡ list_all p (map view all)
 all_fail p view xs all i x same lt is so_far holds =
     fails (p (view x)) (list_all p (map view (drop (i + 1) xs))) (list_all p (map view (drop i xs))) (list_all p (map view xs))
-        (ap (λ ys. list_all p (map view ys)) (next_item xs i x lt is)) so_far holds
-      ∙ ap (λ ys. list_all p (map view ys)) same
+    (ap (λ ys. list_all p (map view ys)) (next_item xs i x lt is)) so_far holds
+    ∙ ap (λ ys. list_all p (map view ys)) same
 
 -- the greater of two is within where both are
 pub max_within : (a b n : ℕ) → nat_le (max a b) n ≡ (nat_le a n && nat_le b n)

@@ -9,7 +9,7 @@ use Rattle.hq_sql_tree.specs.Form.{is_one}
 
 pub plain_form : (distinct : List ExprTree) (outs : List OutTree) (from : FromTree) (joins : JoinTrees) (condition : FilterTree) (keys : List OrderTree) (limit offset : Option ℕ)
     → is_statement_form (tree.rows distinct outs from joins condition keys limit offset)
-      ≡ (is_one from && is_no_filter condition && (length keys == 0) && is_none limit && is_none offset && is_object_output outs)
+    ≡ (is_one from && is_no_filter condition && (length keys == 0) && is_none limit && is_none offset && is_object_output outs)
 plain_form distinct outs (tree.table schema name alias) joins condition keys limit offset = refl
 plain_form distinct outs (tree.sub s alias) joins condition keys limit offset = refl
 plain_form distinct outs (tree.one alias) joins (tree.filter p) keys limit offset = refl

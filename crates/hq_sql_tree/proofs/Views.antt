@@ -16,8 +16,8 @@ use Rattle.hq_sql_tree.specs.View.{agg_view, expr_view, out_view, order_view, se
 
 pub view_rows : (distinct : Vec Expr) (outs : Vec Out) (from : From) (joins : Vec Join) (condition : Option Pred) (keys : Vec Order) (limit offset : Option ℕ)
     → select_view (Rows distinct outs from joins condition keys limit offset)
-      ≡ tree.rows (map expr_view distinct.items) (map out_view outs.items) (from_view from) (joins_of (map join_view joins.items))
-        (filter_view condition) (map order_view keys.items) limit offset
+    ≡ tree.rows (map expr_view distinct.items) (map out_view outs.items) (from_view from) (joins_of (map join_view joins.items))
+    (filter_view condition) (map order_view keys.items) limit offset
 view_rows distinct outs from joins condition keys limit offset = search (rules, the_lemmas)
 
 pub view_fold : (o : Out) (inner : Box Select) (alias : List ℕ) → select_view (Fold o inner alias) ≡ tree.fold (out_view o) (select_view inner.value) alias

@@ -21,7 +21,7 @@ author =
       name = codes "author";
       columns =
           record { name = codes "id"; ty = ty.Integer; nullable = false } ∷ record { name = codes "name"; ty = ty.Text; nullable = false }
-            ∷ record { name = codes "email"; ty = ty.Text; nullable = true } ∷ [];
+          ∷ record { name = codes "email"; ty = ty.Text; nullable = true } ∷ [];
       key = 0 ∷ [];
       foreign = [];
     }
@@ -48,11 +48,12 @@ of_rows name = tree.column (codes "s1") name false
 abbrev chosen : SelectTree
 chosen =
     tree.rows []
-    (record
-         { value = tree.object
-              (tree.pair (codes "id") (of_table (codes "id")) (tree.pair (codes "name") (of_table (codes "name")) tree.no_pair));
-            name = codes "v" }
-       ∷ record { value = of_table (codes "id"); name = codes "o0" } ∷ [])
+    (record {
+      value = tree.object
+          (tree.pair (codes "id") (of_table (codes "id")) (tree.pair (codes "name") (of_table (codes "name")) tree.no_pair));
+      name = codes "v";
+    }
+    ∷ record { value = of_table (codes "id"); name = codes "o0" } ∷ [])
     (tree.table (codes "public") (codes "author") (codes "t1")) tree.no_join (tree.filter (tree.compare (tree.column (codes "t1") (codes "name") true) op.Eq (tree.text (codes "O'Hara"))))
     (record { value = of_table (codes "id"); desc = false; nulls_first = false } ∷ []) None None
 
@@ -63,22 +64,22 @@ listed = tree.fold (record { value = tree.aggregate (tree.json_agg (of_rows (cod
 abbrev statement : SelectTree
 statement =
     tree.rows []
-      (record
-           { value = tree.object (tree.pair (codes "author") (tree.column (codes "j1") (codes "v") false) tree.no_pair); name = codes "v" }
-         ∷ [])
-      (tree.one (codes "t0")) (tree.join listed (codes "j1") tree.no_join) tree.no_filter [] None None
+    (record
+    { value = tree.object (tree.pair (codes "author") (tree.column (codes "j1") (codes "v") false) tree.no_pair); name = codes "v" }
+    ∷ [])
+    (tree.one (codes "t0")) (tree.join listed (codes "j1") tree.no_join) tree.no_filter [] None None
 
 -- `{"author":[{"id":3,"name":"O'Hara"}]}`
 abbrev answer : JsonTree
 answer =
     json.obj
-      (json.member (codes "author")
-         (json.arr
-            (json.element
-               (json.obj
-                  (json.member (codes "id") (json.int (pos 3)) (json.member (codes "name") (json.str (codes "O'Hara")) json.no_member)))
-               json.no_element))
-         json.no_member)
+    (json.member (codes "author")
+    (json.arr
+    (json.element
+    (json.obj
+    (json.member (codes "id") (json.int (pos 3)) (json.member (codes "name") (json.str (codes "O'Hara")) json.no_member)))
+    json.no_element))
+    json.no_member)
 
 pub worked_meaning : meaning statement world ≡ answer
 worked_meaning = refl
@@ -89,12 +90,12 @@ worked_statement = refl
 -- an alias that is not in scope
 pub unknown_alias : is_well_typed
     (tree.rows []
-       (record
-            { value = tree.object (tree.pair (codes "author") (tree.column (codes "j2") (codes "v") false) tree.no_pair); name = codes "v" }
-          ∷ [])
-       (tree.one (codes "t0")) tree.no_join tree.no_filter [] None None)
+    (record
+    { value = tree.object (tree.pair (codes "author") (tree.column (codes "j2") (codes "v") false) tree.no_pair); name = codes "v" }
+    ∷ [])
+    (tree.one (codes "t0")) tree.no_join tree.no_filter [] None None)
     (author ∷ [])
-  ≡ false
+    ≡ false
 unknown_alias = refl
 
 -- a table that the catalog lacks

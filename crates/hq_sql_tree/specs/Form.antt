@@ -150,8 +150,8 @@ abbrev mutual
   pub select_depth : SelectTree → ℕ
   select_depth (tree.rows distinct outs from joins condition keys limit offset) =
       max (distinct_depth distinct)
-        (max (greatest (map (λ o. expr_depth o.value) outs))
-           (max (from_depth from) (max (joins_depth joins) (max (filter_depth condition) (greatest (map (λ k. expr_depth k.value) keys))))))
+      (max (greatest (map (λ o. expr_depth o.value) outs))
+      (max (from_depth from) (max (joins_depth joins) (max (filter_depth condition) (greatest (map (λ k. expr_depth k.value) keys))))))
   select_depth (tree.fold out inner alias) = max (expr_depth out.value) (1 + select_depth inner)
 
   pub from_depth : FromTree → ℕ

@@ -132,9 +132,9 @@ abbrev mutual
       ++ (filter_text condition ++ (clause_text word.OrderBy word.Comma (map order_text keys) ++ (number_text word.Limit limit ++ number_text word.Offset offset))))))))
   select_text (tree.fold out inner alias) =
       word_text word.Select
-        ++
-          (out_text out
-             ++ (word_text word.From ++ (word_text word.Open ++ (select_text inner ++ (word_text word.CloseAs ++ name_text alias)))))
+      ++
+      (out_text out
+      ++ (word_text word.From ++ (word_text word.Open ++ (select_text inner ++ (word_text word.CloseAs ++ name_text alias)))))
 
   pub from_text : FromTree → List ℕ
   from_text (tree.table schema name alias) = name_text schema ++ (word_text word.Dot ++ (name_text name ++ (word_text word.As ++ name_text alias)))

@@ -208,7 +208,7 @@ is_item scope e item = is_compared scope item && compare_kinds (kind scope e) (k
 abbrev pub are_parts : Aliases → (distinct : List ExprTree) → List OutTree → List OrderTree → Bool
 are_parts scope distinct outs keys =
     list_all (is_compared scope) distinct && begin_with distinct [] keys && list_all (λ o. is_value scope o.value) outs
-      && all_differ bytes_eq (map (λ o. o.name) outs) && list_all (λ k. is_compared scope k.value) keys
+    && all_differ bytes_eq (map (λ o. o.name) outs) && list_all (λ k. is_compared scope k.value) keys
 
 -- ---- selects
 

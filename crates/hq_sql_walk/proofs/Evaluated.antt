@@ -49,7 +49,7 @@ module _ (s : SelectTree) (a : List ℕ) (js : JoinTrees) (w : World) (n : Scope
 
   -- a join that is put off, and gives one row at most
   pub later_is : is_single s ≡ true → (views : List (List (Option NamedRow)))
-    → map (beside js w (with_alias n a (first_row (rows_of s w n)))) views
+      → map (beside js w (with_alias n a (first_row (rows_of s w n)))) views
       ≡ filter keeps (joined js w (with_alias n a (first_row (rows_of s w n))))
       → map (beside (join s a js) w n) (map put_off views) ≡ filter keeps (joined (join s a js) w n)
   later_is single views e =
@@ -57,7 +57,7 @@ module _ (s : SelectTree) (a : List ℕ) (js : JoinTrees) (w : World) (n : Scope
 
   -- such a join that is evaluated behind WHERE
   pub keys_is : is_single s ≡ true → (r : NamedRow) → r ≡ first_row (rows_of s w n) → (views : List (List (Option NamedRow)))
-    → map (beside js w (with_alias n a (first_row (rows_of s w n)))) views
+      → map (beside js w (with_alias n a (first_row (rows_of s w n)))) views
       ≡ filter keeps (joined js w (with_alias n a (first_row (rows_of s w n))))
       → map (beside (join s a js) w n) (map (λ rows. Some r ∷ rows) views) ≡ filter keeps (joined (join s a js) w n)
   keys_is single r e views h =
@@ -93,7 +93,7 @@ module _ (js : JoinTrees) (w : World) (n : Scope) (a : List ℕ) (keeps : Scope 
   pub kept_step : (rs : List NamedRow) (i : ℕ) → i < length rs → kept_here (take (i + 1) rs) ≡ kept_here (take i rs) ++ filter keeps (joined js w (with_alias n a (get_or rs i [])))
   kept_step rs i h =
       ap (λ k. kept_here (take k rs)) (add-one i) ∙ ap kept_here (take-suc rs i [] h) ∙ kept_append (take i rs) (get_or rs i [] ∷ [])
-        ∙ ap (λ l. kept_here (take i rs) ++ filter keeps l) (append-nil (joined js w (with_alias n a (get_or rs i []))))
+      ∙ ap (λ l. kept_here (take i rs) ++ filter keeps l) (append-nil (joined js w (with_alias n a (get_or rs i []))))
 
   has_front : (xs ys zs : List Scope) → has_items ys ≡ true → xs ≡ [] → has_items ((xs ++ ys) ++ zs) ≡ true
   has_front [] [] zs h e = cc
@@ -102,8 +102,8 @@ module _ (js : JoinTrees) (w : World) (n : Scope) (a : List ℕ) (keeps : Scope 
 
   -- a row of FROM that WHERE keeps
   pub any_found : (rs : List NamedRow) (i : ℕ) (r : NamedRow) (here : List Scope) → i < length rs → r ≡ get_or rs i []
-    → here ≡ filter keeps (joined js w (with_alias n a r)) → has_items here ≡ true → kept_here (take i rs) ≡ []
-    → true ≡ has_items (kept_here rs)
+      → here ≡ filter keeps (joined js w (with_alias n a r)) → has_items here ≡ true → kept_here (take i rs) ≡ []
+      → true ≡ has_items (kept_here rs)
   any_found rs i r here lt e h k none =
       let parts : kept_here rs ≡ (kept_here (take i rs) ++ filter keeps (joined js w (with_alias n a (get_or rs i [])))) ++ kept_here (drop (i + 1) rs) =
       ap kept_here (sym (take-append-drop (i + 1) rs)) ∙ kept_append (take (i + 1) rs) (drop (i + 1) rs) ∙ ap (λ l. l ++ kept_here (drop (i + 1) rs)) (kept_step rs i lt) in
@@ -112,14 +112,14 @@ module _ (js : JoinTrees) (w : World) (n : Scope) (a : List ℕ) (keeps : Scope 
 
   -- one that it does not keep
   pub any_passed : (rs : List NamedRow) (i : ℕ) (r : NamedRow) (here : List Scope) → i < length rs → r ≡ get_or rs i []
-    → here ≡ filter keeps (joined js w (with_alias n a r)) → here ≡ [] → kept_here (take i rs) ≡ [] → kept_here (take (i + 1) rs) ≡ []
+      → here ≡ filter keeps (joined js w (with_alias n a r)) → here ≡ [] → kept_here (take i rs) ≡ [] → kept_here (take (i + 1) rs) ≡ []
   any_passed rs i r here lt e h k none =
       kept_step rs i lt ∙ ap₂ (λ x y. x ++ y) none (ap (λ q. filter keeps (joined js w (with_alias n a q))) (sym e) ∙ sym h ∙ k)
 
   -- the places of one more row of FROM, behind what is there
   pub scan_step : (before : List Scope) (from : Source) (rs : List NamedRow) (i p : ℕ) (r : NamedRow) (old : List Place)
       (lists : List (Vec (Option Made)))
-    → i < length rs → row_in from p ≡ get_or rs i [] → r ≡ row_in from p
+      → i < length rs → row_in from p ≡ get_or rs i [] → r ≡ row_in from p
       → map (beside js w (with_alias n a r)) (map joined_view lists) ≡ filter keeps (joined js w (with_alias n a r))
       → before ++ map (names_at from a js w n) old ≡ kept_here (take i rs) → before ++ map (names_at from a js w n) (old ++ map (place_of p) lists) ≡ kept_here (take (i + 1) rs)
   scan_step before from rs i p r old lists lt at e h k =
@@ -129,7 +129,7 @@ module _ (js : JoinTrees) (w : World) (n : Scope) (a : List ℕ) (keeps : Scope 
       map_map P (place_of p) lists ∙ ap (λ q. map (λ l. beside js w (with_alias n a q) (joined_view l)) lists) (sym e) ∙ sym (map_map (beside js w (with_alias n a r)) joined_view lists) ∙ h
       ∙ ap (λ q. filter keeps (joined js w (with_alias n a q))) there in
       ap (λ l. before ++ l) (map-append P old (map (place_of p) lists))
-        ∙ sym (append_assoc before (map P old) (map P (map (place_of p) lists))) ∙ ap₂ (λ x y. x ++ y) k placed ∙ sym (kept_step rs i lt)
+      ∙ sym (append_assoc before (map P old) (map P (map (place_of p) lists))) ∙ ap₂ (λ x y. x ++ y) k placed ∙ sym (kept_step rs i lt)
 
   -- the places of all positions from the first one on
   pub scan_all : (rs : List NamedRow) (next end : ℕ) (found : List Scope) → found ≡ kept_here (take next rs) → next ≡ end → end ≡ length rs → found ≡ kept_here rs
@@ -137,24 +137,24 @@ module _ (js : JoinTrees) (w : World) (n : Scope) (a : List ℕ) (keeps : Scope 
 
   -- the first rows by ORDER BY, behind one more stretch
   pub top_step : (os : List OrderTree) (bound next more : ℕ) (rs : List NamedRow) (top found sorted : List Scope)
-    → top ≡ take bound (sort (order_cmp os) (kept_here (take next rs))) → kept_here (take next rs) ++ found ≡ kept_here (take more rs)
+      → top ≡ take bound (sort (order_cmp os) (kept_here (take next rs))) → kept_here (take next rs) ++ found ≡ kept_here (take more rs)
       → sorted ≡ sort (order_cmp os) (top ++ found) → take bound sorted ≡ take bound (sort (order_cmp os) (kept_here (take more rs)))
   top_step os bound next more rs top found sorted t f s =
       ap (take bound) (s ∙ ap (λ l. sort (order_cmp os) (l ++ found)) t) ∙ first_sorted (order_total os) bound (kept_here (take next rs)) found ∙ ap (λ l. take bound (sort (order_cmp os) l)) f
 
   -- the page of the first rows by ORDER BY
   pub top_page : (os : List OrderTree) (limit offset : Option ℕ) (bound next end : ℕ) (rs : List NamedRow) (top : List Scope)
-    → Suffices limit offset (Some bound) → top ≡ take bound (sort (order_cmp os) (kept_here (take next rs))) → end ≤ next → end ≡ length rs
+      → Suffices limit offset (Some bound) → top ≡ take bound (sort (order_cmp os) (kept_here (take next rs))) → end ≤ next → end ≡ length rs
       → limited limit (offset_by offset top) ≡ limited limit (offset_by offset (sort (order_cmp os) (kept_here rs)))
   top_page os limit offset bound next end rs top suffices t past all =
       ap (λ l. limited limit (offset_by offset l))
-          (t ∙ ap (λ l. take bound (sort (order_cmp os) (kept_here l))) (take_all next rs (omega (arith, past, all))))
-        ∙ bound_page limit offset bound (sort (order_cmp os) (kept_here rs)) suffices
+      (t ∙ ap (λ l. take bound (sort (order_cmp os) (kept_here l))) (take_all next rs (omega (arith, past, all))))
+      ∙ bound_page limit offset bound (sort (order_cmp os) (kept_here rs)) suffices
 
   -- the page of the places of enough positions, from the first one on
   pub page_front : (limit offset bound : Option ℕ) (rs : List NamedRow) (next end : ℕ) (found : List Scope) (count : ℕ)
-    → Suffices limit offset bound → found ≡ kept_here (take next rs) → count ≡ length found → (is_enough bound count ≡ false → next ≡ end)
-    → end ≡ length rs
+      → Suffices limit offset bound → found ≡ kept_here (take next rs) → count ≡ length found → (is_enough bound count ≡ false → next ≡ end)
+      → end ≡ length rs
       → limited limit (offset_by offset found) ≡ limited limit (offset_by offset (kept_here rs))
   page_front limit offset bound rs next end found count suffices k long whole all =
       let page : List Scope → List Scope = λ l. limited limit (offset_by offset l) in
@@ -210,29 +210,29 @@ scopes_are (one alias) w n = refl
 -- the rows of a select, where those of a sub-select are given
 pub rows_are : (D : List ExprTree) (O : List OutTree) (F : FromTree) (J : JoinTrees) (C : FilterTree) (K : List OrderTree)
     (limit offset : Option ℕ) (w : World) (n : Scope) (made : List NamedRow)
-  → made ≡ made_rows F w n
+    → made ≡ made_rows F w n
     → map (outputs O [])
-        (limited limit
-           (offset_by offset
-              (distinct_on D
-                 (sort (order_cmp K) (filter (kept C w) (flat_map (joined J w) (map (with_alias n (alias_in F)) (rows_given F w made))))))))
-      ≡ rows_of (rows D O F J C K limit offset) w n
+    (limited limit
+    (offset_by offset
+    (distinct_on D
+    (sort (order_cmp K) (filter (kept C w) (flat_map (joined J w) (map (with_alias n (alias_in F)) (rows_given F w made))))))))
+    ≡ rows_of (rows D O F J C K limit offset) w n
 rows_are D O F J C K limit offset w n made e =
     ap
-      (λ ns. map (outputs O [])
-         (limited limit (offset_by offset (distinct_on D (sort (order_cmp K) (filter (kept C w) (flat_map (joined J w) ns)))))))
-      (ap (λ m. map (with_alias n (alias_in F)) (rows_given F w m)) e ∙ scopes_are F w n)
+    (λ ns. map (outputs O [])
+    (limited limit (offset_by offset (distinct_on D (sort (order_cmp K) (filter (kept C w) (flat_map (joined J w) ns)))))))
+    (ap (λ m. map (with_alias n (alias_in F)) (rows_given F w m)) e ∙ scopes_are F w n)
 
 -- whether it has one, without LIMIT and OFFSET
 pub exists_is : (D : List ExprTree) (O : List OutTree) (F : FromTree) (J : JoinTrees) (C : FilterTree) (K : List OrderTree) (w : World)
     (n : Scope) (made given : List NamedRow) (alias : List ℕ)
-  → made ≡ made_rows F w n → given ≡ rows_given F w made → alias ≡ alias_in F
+    → made ≡ made_rows F w n → given ≡ rows_given F w made → alias ≡ alias_in F
     → has_items (filter (kept C w) (flat_map (joined J w) (map (with_alias n alias) given))) ≡ has_rows (rows_of (rows D O F J C K None None) w n)
 exists_is D O F J C K w n made given alias e g a =
     sym (select_has O D K _)
-      ∙ ap has_rows
-        (ap (λ ns. map (outputs O []) (distinct_on D (sort (order_cmp K) (filter (kept C w) (flat_map (joined J w) ns)))))
-           (ap₂ (λ x y. map (with_alias n x) y) a g ∙ ap (λ m. map (with_alias n (alias_in F)) (rows_given F w m)) e ∙ scopes_are F w n))
+    ∙ ap has_rows
+    (ap (λ ns. map (outputs O []) (distinct_on D (sort (order_cmp K) (filter (kept C w) (flat_map (joined J w) ns)))))
+    (ap₂ (λ x y. map (with_alias n x) y) a g ∙ ap (λ m. map (with_alias n (alias_in F)) (rows_given F w m)) e ∙ scopes_are F w n))
 
 take_map : {A B : Type 0} (f : A → B) (n : ℕ) (xs : List A) → map f (take n xs) ≡ take n (map f xs)
 take_map f zero xs = refl

@@ -11,20 +11,20 @@ use Rattle.hq_sql_tree.specs.Form.{is_one}
 
 -- a join that is put off has the first row of its select
 pub beside_put_off : (s : SelectTree) (a : List ℕ) (js : JoinTrees) (w : World) (n : Scope) (rs : List (Option NamedRow))
-  → beside (join s a js) w n (put_off rs) ≡ beside js w (with_alias n a (first_row (rows_of s w n))) rs
+    → beside (join s a js) w n (put_off rs) ≡ beside js w (with_alias n a (first_row (rows_of s w n))) rs
 beside_put_off s a js w n [] = refl
 beside_put_off s a js w n (r ∷ rs) = refl
 
 -- the first join has the row that it has already
 pub beside_row : (s : SelectTree) (a : List ℕ) (js : JoinTrees) (w : World) (n : Scope) (rs : List (Option NamedRow)) (r : NamedRow)
-  → Some r ≡ first_joined rs → beside (join s a js) w n rs ≡ beside js w (with_alias n a r) (other_joined rs)
+    → Some r ≡ first_joined rs → beside (join s a js) w n rs ≡ beside js w (with_alias n a r) (other_joined rs)
 beside_row s a js w n [] r e = cc
 beside_row s a js w n (None ∷ rs) r e = cc
 beside_row s a js w n (Some q ∷ rs) r e = let q_is : q ≡ r = cc in ap (λ x. beside js w (with_alias n a x) rs) q_is
 
 -- and else the first row of its select
 pub beside_none : (s : SelectTree) (a : List ℕ) (js : JoinTrees) (w : World) (n : Scope) (rs : List (Option NamedRow))
-  → None ≡ first_joined rs → beside (join s a js) w n rs ≡ beside js w (with_alias n a (first_row (rows_of s w n))) (other_joined rs)
+    → None ≡ first_joined rs → beside (join s a js) w n rs ≡ beside js w (with_alias n a (first_row (rows_of s w n))) (other_joined rs)
 beside_none s a js w n [] e = refl
 beside_none s a js w n (None ∷ rs) e = refl
 beside_none s a js w n (Some q ∷ rs) e = cc

@@ -13,12 +13,12 @@ pub scope_more : {A B C V : Type 0} (f : C → V) (scope : B → C) (view : A �
 scope_more f scope view xs i x done more =
     grown (λ l. map f (map scope (map view l))) xs i x done more (f (scope (view x)))
     (ap (λ l. map f (map scope l)) (map-append view (take i xs) (x ∷ []))
-       ∙ ap (map f) (map-append scope (map view (take i xs)) (view x ∷ []))
-       ∙ map-append f (map scope (map view (take i xs))) (scope (view x) ∷ []))
+    ∙ ap (map f) (map-append scope (map view (take i xs)) (view x ∷ []))
+    ∙ map-append f (map scope (map view (take i xs))) (scope (view x) ∷ []))
 
 -- what is made so far, and then what is left, is all: one value more
 pub value_more : {A V : Type 0} (f : A → V) (before after : List V) (x : A) (left rest : List A) (whole : List V) → left ≡ x ∷ rest
-  → after ≡ before ++ f x ∷ [] → before ++ map f left ≡ whole → after ++ map f rest ≡ whole
+    → after ≡ before ++ f x ∷ [] → before ++ map f left ≡ whole → after ++ map f rest ≡ whole
 value_more f before after x left rest whole split grows so_far =
     ap (λ l. l ++ map f rest) grows ∙ append_assoc before (f x ∷ []) (map f rest) ∙ ap (λ l. before ++ map f l) (sym split) ∙ so_far
 

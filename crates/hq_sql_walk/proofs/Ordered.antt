@@ -30,11 +30,11 @@ same_keys (e ∷ es) x y = ap (λ b. same_cell (value e [] x) (value e [] y) && 
 
 -- lists with the same images are sorted alike by what is seen of the images
 sort_alike : {A B C : Type 0} (f : A → C) (g : B → C) (R : C → C → Ordering) (xs : List A) (ys : List B) → map f xs ≡ map g ys
-  → map f (sort (λ x y. R (f x) (f y)) xs) ≡ map g (sort (λ x y. R (g x) (g y)) ys)
+    → map f (sort (λ x y. R (f x) (f y)) xs) ≡ map g (sort (λ x y. R (g x) (g y)) ys)
 sort_alike f g R xs ys e = sym (sort_map f R xs) ∙ ap (sort R) e ∙ sort_map g R ys
 
 firsts_alike : {A B C : Type 0} (f : A → C) (g : B → C) (E : C → C → Bool) (xs : List A) (ys : List B) → map f xs ≡ map g ys
-  → map f (firsts (λ x y. E (f x) (f y)) xs) ≡ map g (firsts (λ x y. E (g x) (g y)) ys)
+    → map f (firsts (λ x y. E (f x) (f y)) xs) ≡ map g (firsts (λ x y. E (g x) (g y)) ys)
 firsts_alike {A} {B} f g E xs ys e =
     sym (firsts_map_on (λ (x : A). Unit {0}) f (λ x y. E (f x) (f y)) E (λ x y p q. refl) xs (each_all (λ (x : A). Unit {0}) (λ x. tt) xs))
     ∙ ap (firsts E) e
@@ -49,19 +49,19 @@ module _ {T : Type 0} (P : T → Scope) (K : List OrderTree) where
   sorted_is : (ts : List T) → map P (sort (λ x y. keys_cmp (directions_of K) (key_values K (P x)) (key_values K (P y))) ts) ≡ sort (order_cmp K) (map P ts)
   sorted_is ts =
       ap (map P)
-        (sort_on (λ (x : T). Unit {0}) (λ x y. keys_cmp (directions_of K) (key_values K (P x)) (key_values K (P y)))
-           (λ x y. order_cmp K (P x) (P y)) (λ x y p q. order_keys K (P x) (P y)) ts (each_all (λ (x : T). Unit {0}) (λ x. tt) ts))
+      (sort_on (λ (x : T). Unit {0}) (λ x y. keys_cmp (directions_of K) (key_values K (P x)) (key_values K (P y)))
+      (λ x y. order_cmp K (P x) (P y)) (λ x y p q. order_keys K (P x) (P y)) ts (each_all (λ (x : T). Unit {0}) (λ x. tt) ts))
       ∙ sym (sort_map P (order_cmp K) ts)
 
   grouped_is : (D : List ExprTree) (ts : List T) → map P (firsts (λ x y. same_cells (expr_values D (P x)) (expr_values D (P y))) ts) ≡ firsts (same_values D) (map P ts)
   grouped_is D ts =
       sym
-        (firsts_map_on (λ (x : T). Unit {0}) P (λ x y. same_cells (expr_values D (P x)) (expr_values D (P y))) (same_values D)
-           (λ x y p q. sym (same_keys D (P x) (P y))) ts (each_all (λ (x : T). Unit {0}) (λ x. tt) ts))
+      (firsts_map_on (λ (x : T). Unit {0}) P (λ x y. same_cells (expr_values D (P x)) (expr_values D (P y))) (same_values D)
+      (λ x y p q. sym (same_keys D (P x) (P y))) ts (each_all (λ (x : T). Unit {0}) (λ x. tt) ts))
 
   -- the rows of the kept ones, sorted and grouped, are those of the scopes, sorted and grouped
   pub arranged_is : (D : List ExprTree) (ks : List (Kept T)) (ts : List T) → map with_cells ks ≡ map (taken_at P K D) ts
-    → map P (map row_of (distinct_kept D (sort (by_keys K) ks))) ≡ distinct_on D (sort (order_cmp K) (map P ts))
+      → map P (map row_of (distinct_kept D (sort (by_keys K) ks))) ≡ distinct_on D (sort (order_cmp K) (map P ts))
   arranged_is [] ks ts e =
       let R : (List CellTree × List CellTree) × T → (List CellTree × List CellTree) × T → Ordering = λ u v. keys_cmp (directions_of K) u.0.0 v.0.0 in
       let sorted = sort_alike with_cells (taken_at P K []) R ks ts e in
@@ -76,7 +76,7 @@ module _ {T : Type 0} (P : T → Scope) (K : List OrderTree) where
 
 -- the elements of an aggregate's list, sorted
 pub elements_are : (e : ExprTree) (os : List OrderTree) (ks : List (Kept Json)) (ns : List Scope) → map with_json ks ≡ map (json_at e os) ns
-  → map json_view (map row_of (sort (by_keys os) ks)) ≡ map (λ n. json_of (value e [] n)) (sort (orders_cmp (orders_of os)) ns)
+    → map json_view (map row_of (sort (by_keys os) ks)) ≡ map (λ n. json_of (value e [] n)) (sort (orders_cmp (orders_of os)) ns)
 elements_are e os ks ns h =
     let R : List CellTree × JsonTree → List CellTree × JsonTree → Ordering = λ u v. keys_cmp (directions_of os) u.0 v.0 in
     let second : List CellTree × JsonTree → JsonTree = λ u. u.1 in

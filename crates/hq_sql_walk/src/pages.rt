@@ -224,11 +224,11 @@ fn keyed<'s, 'd>(
     scope: &'s Scope<'s, 'd>,
 ) -> Result<Vec<Kept<'d, Place<'d>>>, Memory>
     ensures { IfOk result
-          (λ kept. map with_cells kept.items
-             ≡ map
-               (taken_at (scope_at source.entry alias.now joins.now world.now scope.now) (map order_view order.now.items)
-                  (map expr_view distinct.now.items))
-               places.entry.items) }
+        (λ kept. map with_cells kept.items
+        ≡ map
+        (taken_at (scope_at source.entry alias.now joins.now world.now scope.now) (map order_view order.now.items)
+        (map expr_view distinct.now.items))
+        places.entry.items) }
 {
     let mut kept = Vec::with_capacity(alloc, places.len())?;
     for place in places {
@@ -254,9 +254,9 @@ fn with_keys<'d>(
     scope: &Scope<'_, 'd>,
 ) -> Result<Kept<'d, Place<'d>>, Memory>
     ensures { IfOk result
-          (λ kept. with_cells kept
-             ≡ keyed_in order.now.items distinct.now.items
-               (names_joined joins.now place.entry.joined.items world.now (names_of scope.now world.now)) place.entry) }
+        (λ kept. with_cells kept
+        ≡ keyed_in order.now.items distinct.now.items
+        (names_joined joins.now place.entry.joined.items world.now (names_of scope.now world.now)) place.entry) }
 {
     let keys = asked_at(
         alloc,

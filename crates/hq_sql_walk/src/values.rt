@@ -92,9 +92,9 @@ fn members<'d>(
     scope: &Scope<'_, 'd>,
 ) -> Result<Vec<Member>, Memory>
     ensures { IfOk result
-          (λ members. map member_view members.items
-             ≡ map (member_at (group_of group.entry (names_of scope.now world.now)) (names_of scope.now world.now))
-               (map pair_view pairs.now.items)) }
+        (λ members. map member_view members.items
+        ≡ map (member_at (group_of group.entry (names_of scope.now world.now)) (names_of scope.now world.now))
+        (map pair_view pairs.now.items)) }
 {
     let mut members = Vec::with_capacity(alloc, pairs.len())?;
     for pair in pairs {

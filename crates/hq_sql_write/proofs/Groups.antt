@@ -37,7 +37,7 @@ module _ (g : Grouped) (w : World) (n : Names) (e : ExprTree) (name : List ℕ) 
 -- the outputs at the places of a select's rows are its rows
 pub rows_there : (rows : Rows) (select : Select) (alias : List ℕ) (w : World) (n : Names) (N : Place → Names) (outs : List Out)
     (ps : List Place)
-  → outs ≡ rows.parts.outs.now.items → map N ps ≡ scopes_in rows w n
+    → outs ≡ rows.parts.outs.now.items → map N ps ≡ scopes_in rows w n
     → rows_of (select_view select) w n ≡ map (outputs (map out_view rows.parts.outs.now.items) []) (scopes_in rows w n)
     → map (with_alias n alias) (map (outputs (map out_view outs) []) (map N ps)) ≡ map (with_alias n alias) (rows_of (select_view select) w n)
 rows_there rows select alias w n N outs ps same there are =

@@ -34,7 +34,7 @@ object_is O ps (s ∷ ss) h = ap json_of (output_is O (codes "v") s ∙ ap (λ o
 
 -- the object at the first of these
 pub object_at : {T : Type 0} (N : T → Names) (places : List T) (place : T) (ps : List PairTree) → Some place ≡ slice_get places 0
-  → first_object ps (map N places) ≡ obj (members (pairs_of ps) [] (N place))
+    → first_object ps (map N places) ≡ obj (members (pairs_of ps) [] (N place))
 object_at N [] place ps h = cc
 object_at N (p ∷ rest) place ps h =
     let same : place ≡ p = cc in

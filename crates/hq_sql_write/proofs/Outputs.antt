@@ -23,8 +23,8 @@ column_output alias of name collate os e h k outer names =
 
 -- so has the output that was found, where one was
 pub some_output : {A : Type 0} (view : A → ExprTree) (found : Option A) (alias of name : List ℕ) (collate : Bool) (os : List OutTree)
-  → bytes_eq alias of ≡ true → option_map view found ≡ output_in os name
-  → IfSome found (λ e. IsOutput alias os (column of name collate) (view e))
+    → bytes_eq alias of ≡ true → option_map view found ≡ output_in os name
+    → IfSome found (λ e. IsOutput alias os (column of name collate) (view e))
 some_output view None alias of name collate os h k = tt
 some_output view (Some e) alias of name collate os h k = column_output alias of name collate os (view e) h k
 

@@ -63,7 +63,7 @@ stretched e begun before more all begin now after b p n a =
     let T = text_of e in
     let whole : texts_of e all ≡ texts_of e before ++ more_texts begun (map T more) =
     ap (texts_of e) (sym p) ∙ ap (join_with_byte 44) (map-append T before more) ∙ joined_pieces (map T before) (map T more)
-      ∙ ap (λ h. texts_of e before ++ more_texts h (map T more)) (has_image T before ∙ sym b) in
+    ∙ ap (λ h. texts_of e before ++ more_texts h (map T more)) (has_image T before ∙ sym b) in
     a ∙ ap (λ t. t ++ more_texts begun (map T more)) n ∙ append_assoc begin (texts_of e before) (more_texts begun (map T more)) ∙ ap (λ t. begin ++ t) (sym whole)
 
 -- whether one was found so far

@@ -51,7 +51,7 @@ ascends_distinct R (e ∷ es) xs h = ascends_firsts R (same_values (e ∷ es)) x
 -- the page of a select stands in the order of its keys
 pub page_ascends : (D : List ExprTree) (J : JoinTrees) (C : FilterTree) (K : List OrderTree) (limit offset : Option ℕ) (w : World)
     (ns : List Names)
-  → Ascends (order_cmp K) (page_of D J C K limit offset w ns)
+    → Ascends (order_cmp K) (page_of D J C K limit offset w ns)
 page_ascends D J C K limit offset w ns =
     let R = order_cmp K in
     let sorted = sort R (kept_items (kept C w) (flat_map (joined J w) ns)) in

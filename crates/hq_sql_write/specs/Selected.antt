@@ -20,7 +20,7 @@ page_of distinct joins condition keys limit offset world scopes =
 abbrev pub page_in : Rows → World → List Names → List Names
 page_in rows world scopes =
     page_of (map expr_view rows.parts.distinct.now.items) (joins_of (map join_view rows.joins.now)) (filter_view rows.parts.filter.now)
-      (map order_view rows.parts.order.now.items) rows.limit rows.offset world scopes
+    (map order_view rows.parts.order.now.items) rows.limit rows.offset world scopes
 
 -- of the rows of a select
 abbrev pub scopes_in : Rows → World → Names → List Names

@@ -63,7 +63,7 @@ pub fn placed_rows<'s, 'd>(
 ) -> Placed<'s, 'd>
     ensures joins { result.joins ≡ rows.now.joins }
     ensures scopes { (n : Names) → map made_view made.now ≡ made_rows (from_view rows.now.from.now) (world_of world.now) n
-          → from_in result n ≡ scopes_of (from_view rows.now.from.now) (world_of world.now) n }
+        → from_in result n ≡ scopes_of (from_view rows.now.from.now) (world_of world.now) n }
 {
     Placed {
         source: source_of(world, rows.from, made),

@@ -26,8 +26,8 @@ all_differ-drop (suc k) (p ∷ places) h = all_differ-drop k places ((and_parts 
 
 -- the later ones of different places are not the one that is taken
 left_more : (before all values : List Val) (places : List ℕ) (k : ℕ) (rows : List Val) (p : ℕ) → IsArranged before all values places k rows
-  → drop k places ≡ p ∷ drop (k + 1) places → are_places (length all) places ≡ true → (q : ℕ)
-  → list_any (eqb q) (drop (k + 1) places) ≡ true → get_or (slice_set values p val.Null) q val.Null ≡ get_or all q val.Null
+    → drop k places ≡ p ∷ drop (k + 1) places → are_places (length all) places ≡ true → (q : ℕ)
+    → list_any (eqb q) (drop (k + 1) places) ≡ true → get_or (slice_set values p val.Null) q val.Null ≡ get_or all q val.Null
 left_more before all values places k rows p so_far next apart q among =
     let differ = rw next at (all_differ-drop k places ((and_parts (list_all (λ p. ltb p (length all)) places) (all_differ eqb places) apart).1)) in
     let later = not-true (list_any (eqb p) (drop (k + 1) places)) (first_so (not (list_any (eqb p) (drop (k + 1) places))) (all_differ eqb (drop (k + 1) places)) differ) in
@@ -37,9 +37,9 @@ left_more before all values places k rows p so_far next apart q among =
 
 -- the next place's value is taken
 pub IsArranged-more : (before all values : List Val) (places : List ℕ) (k : ℕ) (rows : List Val) (v : Val)
-  → IsArranged before all values places k rows → k < length places → are_places (length all) places ≡ true
-  → v ≡ get_or values (get_or places k 0) val.Null
-  → IsArranged before all (slice_set values (get_or places k 0) val.Null) places (k + 1) (rows ++ v ∷ [])
+    → IsArranged before all values places k rows → k < length places → are_places (length all) places ≡ true
+    → v ≡ get_or values (get_or places k 0) val.Null
+    → IsArranged before all (slice_set values (get_or places k 0) val.Null) places (k + 1) (rows ++ v ∷ [])
 IsArranged-more before all values places k rows v so_far within apart is =
     let next = drop_more places k 0 within in
     let first : list_any (eqb (get_or places k 0)) (drop k places) ≡ true = rw (next, (Decides-eqb (get_or places k 0) (get_or places k 0)).1 refl) refl in
@@ -60,7 +60,7 @@ all_at n (p ∷ places) (suc k) all within = all_at n places k (second_so (ltb p
 
 -- the next place is one of the values
 pub next_within : (before all values : List Val) (places : List ℕ) (k : ℕ) (rows : List Val) → IsArranged before all values places k rows
-  → k < length places → are_places (length all) places ≡ true → get_or places k 0 < length values
+    → k < length places → are_places (length all) places ≡ true → get_or places k 0 < length values
 next_within before all values places k rows so_far within apart =
     let here = all_at (length all) places k (first_so (list_all (λ p. ltb p (length all)) places) (all_differ eqb places) apart) within in
     omega (arith, here, so_far.long)

@@ -26,5 +26,5 @@ held x f e = cc
 
 -- and it is the one of the list
 pub field_there : (r : Option (Bor (List ℕ))) (x : Bor (List ℕ)) (fields : List (List ℕ)) (i : ℕ)
-  → option_map (λ s. s.now) r ≡ field_at fields i → i < length fields → r ≡ Some x → x.now ≡ get_or fields i []
+    → option_map (λ s. s.now) r ≡ field_at fields i → i < length fields → r ≡ Some x → x.now ≡ get_or fields i []
 field_there r x fields i e h s = held x (get_or fields i []) (rw s at (e ∙ (field_at-slice_get fields i ∙ slice_get-get_or fields i [] h)))

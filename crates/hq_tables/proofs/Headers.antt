@@ -18,7 +18,7 @@ Found-none f xs = by (all_some (map f xs))
 
 -- one more item that has a value
 pub Found-more : {X Y : Type 0} (f : X → Option Y) (xs : List X) (k : ℕ) (d : X) (found : List Y) (y : Y) → Found f xs k found
-  → k < length xs → f (get_or xs k d) ≡ Some y → Found f xs (k + 1) (found ++ y ∷ [])
+    → k < length xs → f (get_or xs k d) ≡ Some y → Found f xs (k + 1) (found ++ y ∷ [])
 Found-more {X} {Y} f xs k d found y whole within here = rw (drop_more xs k d within, here) at whole ∙ by (all_some (map f (drop (k + 1) xs)))
   where
     by : (r : Option (List Y)) → option_map (λ rest. found ++ rest) (option_map (λ ys. y ∷ ys) r) ≡ option_map (λ rest. (found ++ y ∷ []) ++ rest) r

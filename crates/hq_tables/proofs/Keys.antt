@@ -105,7 +105,7 @@ abbrev key_at : Table → List Row → ℕ → List Val
 key_at t rows i = key_of t (get_or rows i [])
 
 none_has : (t : Table) (rows : List Row) (key : List Val) (n : ℕ) → ((i : ℕ) → i < length rows → same_values (key_at t rows i) key ≡ false)
-  → position_from (λ row. same_values (key_of t row) key) n rows ≡ None
+    → position_from (λ row. same_values (key_of t row) key) n rows ≡ None
 none_has t [] key n h = refl
 none_has t (row ∷ rows) key n h = rw (h 0 (omega arith)) (none_has t rows key (n + 1) (λ i lt. h (suc i) (omega (arith, lt))))
 
@@ -132,7 +132,7 @@ longer seen row = length-append seen (row ∷ [])
 
 -- where all keys differ
 keys_apart : (t : Table) (seen rest : List Row) (refused : Option LoadRefusal) (n : ℕ) → length (seen ++ rest) ≤ n
-  → Apart t (seen ++ rest) n → keys_due t seen rest refused ≡ unless_refused (seen ++ rest) refused
+    → Apart t (seen ++ rest) n → keys_due t seen rest refused ≡ unless_refused (seen ++ rest) refused
 keys_apart t seen [] refused n whole apart = rw (append-nil seen) refl
 keys_apart t seen (row ∷ rest) refused n whole apart =
     let long = length-append seen (row ∷ rest) in
@@ -142,7 +142,7 @@ keys_apart t seen (row ∷ rest) refused n whole apart =
 
 -- where a key is repeated
 keys_repeat : (t : Table) (seen rest : List Row) (refused : Option LoadRefusal) (b a : ℕ) → length seen ≤ b → b < length (seen ++ rest)
-  → a < b → Apart t (seen ++ rest) b → same_values (key_at t (seen ++ rest) a) (key_at t (seen ++ rest) b) ≡ true
+    → a < b → Apart t (seen ++ rest) b → same_values (key_at t (seen ++ rest) a) (key_at t (seen ++ rest) b) ≡ true
     → keys_due t seen rest refused ≡ Err (RepeatedKey (b + 2) (a + 2))
 keys_repeat t seen [] refused b a low within less apart same = let long = length-append seen [] in absurd (omega (arith, low, within, long))
 keys_repeat t seen (row ∷ rest) refused b a low within less apart same =
@@ -156,10 +156,10 @@ keys_repeat t seen (row ∷ rest) refused b a low within less apart same =
           let one : key_at t seen a ≡ key_of t row = values_same (key_at t seen a) (key_of t row) tie in
           let before : (i : ℕ) → i < a → same_values (key_at t seen i) (key_of t row) ≡ false =
           λ i lt.
-            (let i_key : key_at t (seen ++ row ∷ rest) i
-               ≡ key_at t seen i = ap (key_of t) (at_front seen (row ∷ rest) i (omega (arith, lt, below))) in rw (i_key, a_key, one) at
-                 (apart i a lt less))
-            in
+          (let i_key : key_at t (seen ++ row ∷ rest) i
+          ≡ key_at t seen i = ap (key_of t) (at_front seen (row ∷ rest) i (omega (arith, lt, below))) in rw (i_key, a_key, one) at
+          (apart i a lt less))
+          in
           let found : line_of_key t seen (key_of t row) ≡ Some (2 + a) = first_has t seen (key_of t row) 2 a below before tie in
           let line : 2 + a ≡ a + 2 = omega arith in
           rw (found, line, is) refl
@@ -180,7 +180,7 @@ pub keys_due-differ : (t : Table) (rows : List Row) (refused : Option LoadRefusa
 keys_due-differ t rows refused differ = keys_apart t [] rows refused (length rows) (omega arith) (λ i j lt below. sym (same_key-values t rows i j) ∙ differ i j lt below)
 
 pub keys_due-repeat : (t : Table) (rows : List Row) (refused : Option LoadRefusal) (r : Repeat) → IsFirstRepeat t.key rows r
-  → keys_due t [] rows refused ≡ Err (RepeatedKey (r.row + 2) (r.earlier + 2))
+    → keys_due t [] rows refused ≡ Err (RepeatedKey (r.row + 2) (r.earlier + 2))
 keys_due-repeat t rows refused r first =
     keys_repeat t [] rows refused r.row r.earlier (omega arith) first.within first.before
     (λ i j lt below. sym (same_key-values t rows i j) ∙ first.first i j lt below) (sym (same_key-values t rows r.earlier r.row) ∙ first.same)

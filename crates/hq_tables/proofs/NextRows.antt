@@ -22,11 +22,11 @@ pub rows_due-keys : (t : Table) (names : List (List ℕ)) (columns : List Column
 rows_due-keys t names columns seen [] line at = refl
 rows_due-keys t names columns seen (r ∷ rs) line at =
     by (record_due line t names columns r) refl
-      (λ row. rows_due-keys t names columns (seen ++ row ∷ []) rs (line + 1)
-         (let long = length-append seen (row ∷ []) in omega (arith, at, long)))
+    (λ row. rows_due-keys t names columns (seen ++ row ∷ []) rs (line + 1)
+    (let long = length-append seen (row ∷ []) in omega (arith, at, long)))
   where
     tested : (row : Row) (o : Option ℕ)
-      → rows_due t names columns (seen ++ row ∷ []) rs
+        → rows_due t names columns (seen ++ row ∷ []) rs
         ≡ keys_due t (seen ++ row ∷ []) (rows_read (line + 1) t names columns rs).0 (rows_read (line + 1) t names columns rs).1
         → and_then (λ row. rows_due t names columns (seen ++ row ∷ []) rs) (unless_repeated (length seen + 2) row o)
         ≡ and_then (λ row. keys_due t (seen ++ row ∷ []) (rows_read (line + 1) t names columns rs).0 (rows_read (line + 1) t names columns rs).1) (unless_repeated (length seen + 2) row o)
@@ -36,8 +36,8 @@ rows_due-keys t names columns seen (r ∷ rs) line at =
     by : (o : Result Row LoadRefusal) → record_due line t names columns r ≡ o
         → ((row : Row) → rows_due t names columns (seen ++ row ∷ []) rs ≡ keys_due t (seen ++ row ∷ []) (rows_read (line + 1) t names columns rs).0 (rows_read (line + 1) t names columns rs).1)
         → rows_due t names columns seen (r ∷ rs)
-          ≡ keys_due t seen (next_read (rows_read (line + 1) t names columns rs) (record_due line t names columns r)).0
-            (next_read (rows_read (line + 1) t names columns rs) (record_due line t names columns r)).1
+        ≡ keys_due t seen (next_read (rows_read (line + 1) t names columns rs) (record_due line t names columns r)).0
+        (next_read (rows_read (line + 1) t names columns rs) (record_due line t names columns r)).1
     by (Ok row) is later =
         let here = subst (λ n. record_due n t names columns r ≡ Ok row) at is in
         rw (here, is) (tested row (line_of_key t seen (key_of t row)) (later row))
@@ -58,7 +58,7 @@ file_due-rows t all names columns rest split header = rw (split, header) refl
 
 -- a file whose header is not the table's column names
 pub file_due-header : (t : Table) (all : List (List (List ℕ))) (names : List (List ℕ)) (rest : List (List (List ℕ))) → all ≡ names ∷ rest
-  → header_due t.columns names ≡ None → file_due t all ≡ Err Header
+    → header_due t.columns names ≡ None → file_due t all ≡ Err Header
 file_due-header t all names rest split header = rw (split, header) refl
 
 -- no more rows than records
@@ -74,7 +74,7 @@ rows_read-few line t names columns (r ∷ rs) = by (record_due line t names colu
 
 -- the row of a record has a value for each column of the table
 record_long : (line : ℕ) (t : Table) (names : List (List ℕ)) (columns : List Column) (fields : List (List ℕ)) (row : Row)
-  → record_due line t names columns fields ≡ Ok row → length row ≡ length t.columns
+    → record_due line t names columns fields ≡ Ok row → length row ≡ length t.columns
 record_long line t names columns fields row e = by (length fields == length columns) e
   where
     by : (b : Bool) → cond b (mapped (in_catalog_order t.columns names) (fields_due line 1 columns fields)) (Err (Width line)) ≡ Ok row → length row ≡ length t.columns
@@ -126,13 +126,13 @@ chunked_more width (suc count) values row long e =
 -- the first record gives a row
 first_read : (line next : ℕ) (t : Table) (names : List (List ℕ)) (columns : List Column) (fields : List (List ℕ))
     (rest : List (List (List ℕ))) (row : Row)
-  → line + 1 ≡ next → record_due line t names columns fields ≡ Ok row
+    → line + 1 ≡ next → record_due line t names columns fields ≡ Ok row
     → rows_read line t names columns (fields ∷ rest) ≡ (row ∷ (rows_read next t names columns rest).0, (rows_read next t names columns rest).1)
 first_read line next t names columns fields rest row at is = rw (is, at) refl
 
 -- a further record that gives a row
 pub read_more : (t : Table) (names : List (List ℕ)) (columns : List Column) (width count : ℕ) (values after : List Val)
-  (fields : List (List ℕ)) (rest : List (List (List ℕ))) (all : List Row × Option LoadRefusal)
+    (fields : List (List ℕ)) (rest : List (List (List ℕ))) (all : List Row × Option LoadRefusal)
     → length values ≡ count * width → width ≡ length t.columns → mapped (λ row. values ++ row) (record_due (count + 2) t names columns fields) ≡ Ok after
     → all ≡ behind (chunked width count values) (rows_read (count + 2) t names columns (fields ∷ rest))
     → (length after ≡ (count + 1) * width) × (all ≡ behind (chunked width (count + 1) after) (rows_read (count + 1 + 2) t names columns rest))
@@ -148,10 +148,10 @@ read_more t names columns width count values after fields rest all long wide e s
     let seen : rows_read (count + 2) t names columns (fields ∷ rest) ≡ (m.0 ∷ later.0, later.1) = first_read (count + 2) (count + 1 + 2) t names columns fields rest m.0 line m.1 in (
       ap length m.2 ∙ omega (arith, whole, long, row_long, product),
       so_far
-        ∙
+          ∙
           (ap (behind (chunked width count values)) seen
-             ∙ ap (λ rows. (rows, later.1))
-               (sym (append_assoc (chunked width count values) (m.0 ∷ []) later.0) ∙ ap (λ rows. rows ++ later.0) (sym grid))),
+          ∙ ap (λ rows. (rows, later.1))
+          (sym (append_assoc (chunked width count values) (m.0 ∷ []) later.0) ∙ ap (λ rows. rows ++ later.0) (sym grid))),
     )
 
 -- a record that gives none
@@ -160,14 +160,14 @@ pub read_stop : (t : Table) (names : List (List ℕ)) (columns : List Column) (r
 read_stop t names columns rows values line fields rest e is = by (record_due line t names columns fields) refl is
   where
     by : (o : Result Row LoadRefusal) → record_due line t names columns fields ≡ o → mapped (λ row. values ++ row) o ≡ Err e
-      → behind rows (rows_read line t names columns (fields ∷ rest)) ≡ (rows, Some e)
+        → behind rows (rows_read line t names columns (fields ∷ rest)) ≡ (rows, Some e)
     by (Ok row) same wrong = cc
     by (Err f) same wrong = let here : f ≡ e = cc in rw (same, here) (ap (λ l. (l, Some e)) (append-nil rows))
 
 -- ---- what was read is valid
 
 pub valid_from : (t : Table) (due : Result (List Row) LoadRefusal) (result : Result (List Row) LoadRefusal)
-  → Gives (λ rows. rows) Memory due result → ((rows : List Row) → due ≡ Ok rows → are_rows t rows ≡ true)
-  → IfOk result (λ rows. are_rows t rows ≡ true)
+    → Gives (λ rows. rows) Memory due result → ((rows : List Row) → due ≡ Ok rows → are_rows t rows ≡ true)
+    → IfOk result (λ rows. are_rows t rows ≡ true)
 valid_from t due (Ok rows) gives valid = valid rows gives
 valid_from t due (Err e) gives valid = tt

@@ -40,12 +40,12 @@ is_some-position_from {X} t i (x ∷ xs) = by (t x) (is_some-position_from t (i 
 pub is_some-places_named : (columns : List Column) (names : List (List ℕ)) → is_some (places_named columns names) ≡ list_all (λ c. list_any (bytes_eq c.name) names) columns
 is_some-places_named columns names =
     is_some-all_some (λ c. position_from (bytes_eq c.name) 0 names) (λ c. list_any (bytes_eq c.name) names)
-      (λ c. is_some-position_from (bytes_eq c.name) 0 names) columns
+    (λ c. is_some-position_from (bytes_eq c.name) 0 names) columns
 
 -- the first value, and the others
 pub head_of : {X : Type 0} (o : Option X) (r : Option (List X)) (xs : List X)
-  → option_and_then (λ x. option_map (λ rest. x ∷ rest) r) o ≡ Some xs
-  → (x : X) × (rest : List X) × (o ≡ Some x) × (r ≡ Some rest) × (xs ≡ x ∷ rest)
+    → option_and_then (λ x. option_map (λ rest. x ∷ rest) r) o ≡ Some xs
+    → (x : X) × (rest : List X) × (o ≡ Some x) × (r ≡ Some rest) × (xs ≡ x ∷ rest)
 head_of None r xs e = cc
 head_of (Some x) None xs e = cc
 head_of (Some x) (Some rest) xs e = (x, rest, refl, refl, cc)
@@ -78,13 +78,13 @@ place_found (n ∷ ns) name i p e = by (bytes_eq name n) refl (place_found ns na
     value_here same (v ∷ vs) = rw same refl
 
     value_past : (k : ℕ) → bytes_eq name n ≡ false → ((vs : List Val) → value_named ns vs name ≡ get_or vs k val.Null) → (values : List Val)
-      → value_named (n ∷ ns) values name ≡ get_or values (suc k) val.Null
+        → value_named (n ∷ ns) values name ≡ get_or values (suc k) val.Null
     value_past k other more [] = refl
     value_past k other more (v ∷ vs) = rw other (more vs)
 
     by : (b : Bool) → bytes_eq name n ≡ b
-      → (position_from (bytes_eq name) (i + 1) ns ≡ Some p → (k : ℕ) × (p ≡ i + 1 + k) × IsPlace ns name k)
-      → cond b (Some i) (position_from (bytes_eq name) (i + 1) ns) ≡ Some p → (k : ℕ) × (p ≡ i + k) × IsPlace (n ∷ ns) name k
+        → (position_from (bytes_eq name) (i + 1) ns ≡ Some p → (k : ℕ) × (p ≡ i + 1 + k) × IsPlace ns name k)
+        → cond b (Some i) (position_from (bytes_eq name) (i + 1) ns) ≡ Some p → (k : ℕ) × (p ≡ i + k) × IsPlace (n ∷ ns) name k
     by true same later e =
         let at : i ≡ p = cc in
         let head : IsPlace (n ∷ ns) name 0 = record { within = omega arith; here = sym ((bytes_decides name n).0 same); value = value_here same } in
@@ -103,7 +103,7 @@ is_place names name p e =
 
 -- the values of the columns, by name and by place
 pub in_catalog_order-places : (columns : List Column) (names : List (List ℕ)) (places : List ℕ) (values : List Val)
-  → places_named columns names ≡ Some places → in_catalog_order columns names values ≡ map (λ p. get_or values p val.Null) places
+    → places_named columns names ≡ Some places → in_catalog_order columns names values ≡ map (λ p. get_or values p val.Null) places
 in_catalog_order-places [] names places values e = let none : [] ≡ places = cc in rw (← none) refl
 in_catalog_order-places (c ∷ cs) names places values e =
     let h = head_of (position_from (bytes_eq c.name) 0 names) (places_named cs names) places e in
@@ -113,7 +113,7 @@ in_catalog_order-places (c ∷ cs) names places values e =
 
 -- a name that none of the columns has stands at none of their places
 apart_from : (columns : List Column) (names : List (List ℕ)) (name : List ℕ) (p : ℕ) (places : List ℕ) → get_or names p [] ≡ name
-  → places_named columns names ≡ Some places → list_any (λ d. bytes_eq name d.name) columns ≡ false → list_any (λ q. eqb p q) places ≡ false
+    → places_named columns names ≡ Some places → list_any (λ d. bytes_eq name d.name) columns ≡ false → list_any (λ q. eqb p q) places ≡ false
 apart_from [] names name p places here e other = let none : [] ≡ places = cc in rw (← none) refl
 apart_from (d ∷ ds) names name p places here e other =
     let h = head_of (position_from (bytes_eq d.name) 0 names) (places_named ds names) places e in
@@ -136,7 +136,7 @@ all_within (c ∷ cs) names places e =
 
 -- columns of different names have different places
 all_apart : (columns : List Column) (names : List (List ℕ)) (places : List ℕ) → places_named columns names ≡ Some places
-  → all_differ (λ c d. bytes_eq c.name d.name) columns ≡ true → all_differ (λ p q. eqb p q) places ≡ true
+    → all_differ (λ c d. bytes_eq c.name d.name) columns ≡ true → all_differ (λ p q. eqb p q) places ≡ true
 all_apart [] names places e differ = let none : [] ≡ places = cc in rw (← none) refl
 all_apart (c ∷ cs) names places e differ =
     let h = head_of (position_from (bytes_eq c.name) 0 names) (places_named cs names) places e in
@@ -147,14 +147,14 @@ all_apart (c ∷ cs) names places e differ =
 
 -- the places of columns with different names are different ones of the header
 pub places-apart : (columns : List Column) (names : List (List ℕ)) (places : List ℕ) → places_named columns names ≡ Some places
-  → all_differ (λ c d. bytes_eq c.name d.name) columns ≡ true → are_places (length names) places ≡ true
+    → all_differ (λ c d. bytes_eq c.name d.name) columns ≡ true → are_places (length names) places ≡ true
 places-apart columns names places e differ =
     and_from (list_all (λ p. ltb p (length names)) places) (all_differ (λ p q. eqb p q) places) (all_within columns names places e)
-      (all_apart columns names places e differ)
+    (all_apart columns names places e differ)
 
 -- a header of as many names, none left out
 pub header_due-whole : (columns : List Column) (names : List (List ℕ)) (places : List ℕ) → length names ≡ length columns
-  → places_named columns names ≡ Some places → header_due columns names ≡ columns_named columns names
+    → places_named columns names ≡ Some places → header_due columns names ≡ columns_named columns names
 header_due-whole columns names places many e =
     let whole = sym (is_some-places_named columns names) ∙ ap is_some e in
     let same : eqb (length names) (length columns) ≡ true = eq-eqb (length names) (length columns) many in

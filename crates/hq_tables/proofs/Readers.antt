@@ -46,7 +46,7 @@ alike (suc n) zero s xs lt below = absurd (omega (arith, below))
 alike (suc n) (suc m) s xs lt below = by (next_record default_config s [] [] xs) refl (λ t ys a b. alike n m t ys a b)
   where
     by : (o : Option Read) → next_record default_config s [] [] xs ≡ o
-      →
+        →
         ((t : State) (ys : List ℕ) → length ys < n → length ys < m → records_from default_config n t ys ≡ records_from default_config m t ys)
         → records_next (records_from default_config n) o ≡ records_next (records_from default_config m) o
     by None is later = refl

@@ -19,8 +19,8 @@ FieldsRead line cs fs k values = fields_due line 1 cs fs ≡ mapped (λ rest. va
 
 -- one more field that has a value
 pub FieldsRead-more : (line : ℕ) (cs : List Column) (fs : List (List ℕ)) (k : ℕ) (c : Column) (values : List Val) (v : Val)
-  → FieldsRead line cs fs k values → drop k cs ≡ c ∷ drop (k + 1) cs → k < length fs → field_due c (get_or fs k []) ≡ Ok v
-  → FieldsRead line cs fs (k + 1) (values ++ v ∷ [])
+    → FieldsRead line cs fs k values → drop k cs ≡ c ∷ drop (k + 1) cs → k < length fs → field_due c (get_or fs k []) ≡ Ok v
+    → FieldsRead line cs fs (k + 1) (values ++ v ∷ [])
 FieldsRead-more line cs fs k c values v whole here within is = rw (here, drop_more fs k [] within, is) at whole ∙ by (fields_due line (k + 1 + 1) (drop (k + 1) cs) (drop (k + 1) fs))
   where
     by : (r : Result (List Val) LoadRefusal) → mapped (λ rest. values ++ rest) (mapped (λ vs. v ∷ vs) r) ≡ mapped (λ rest. (values ++ v ∷ []) ++ rest) r
@@ -29,8 +29,8 @@ FieldsRead-more line cs fs k c values v whole here within is = rw (here, drop_mo
 
 -- a field that has none
 pub FieldsRead-stop : (line : ℕ) (cs : List Column) (fs : List (List ℕ)) (k : ℕ) (c : Column) (values : List Val) (e : FieldRefusal)
-  → FieldsRead line cs fs k values → drop k cs ≡ c ∷ drop (k + 1) cs → k < length fs → field_due c (get_or fs k []) ≡ Err e
-  → fields_due line 1 cs fs ≡ Err (refusal_at line (k + 1) e)
+    → FieldsRead line cs fs k values → drop k cs ≡ c ∷ drop (k + 1) cs → k < length fs → field_due c (get_or fs k []) ≡ Err e
+    → fields_due line 1 cs fs ≡ Err (refusal_at line (k + 1) e)
 FieldsRead-stop line cs fs k c values e whole here within is = rw (here, drop_more fs k [] within, is) at whole
 
 -- the next item of a list, and what follows it
@@ -39,8 +39,8 @@ item_at f xs k x within is = rw (drop-map f k xs, drop-map f (k + 1) xs, drop_mo
 
 -- the first value, and the others
 pub next_of : (first : Result Val LoadRefusal) (r : Result (List Val) LoadRefusal) (vs : List Val)
-  → and_then (λ v. mapped (λ rest. v ∷ rest) r) first ≡ Ok vs
-  → (v : Val) × (rest : List Val) × (first ≡ Ok v) × (r ≡ Ok rest) × (vs ≡ v ∷ rest)
+    → and_then (λ v. mapped (λ rest. v ∷ rest) r) first ≡ Ok vs
+    → (v : Val) × (rest : List Val) × (first ≡ Ok v) × (r ≡ Ok rest) × (vs ≡ v ∷ rest)
 next_of (Err e) r vs same = cc
 next_of (Ok v) (Err e) vs same = cc
 next_of (Ok v) (Ok rest) vs same = (v, rest, refl, refl, cc)
@@ -56,7 +56,7 @@ length-fields_due line col (c ∷ cs) (f ∷ fs) vs same e =
 -- the row of a record, whose values are put at the places of the columns
 pub record_due-arranged : (line : ℕ) (t : Table) (names : List (List ℕ)) (columns : List Column) (fields : List (List ℕ)) (places : List ℕ)
     (values : List Val)
-  → length fields ≡ length columns → fields_due line 1 columns fields ≡ Ok values → places_named t.columns names ≡ Some places
-  → record_due line t names columns fields ≡ Ok (map (λ p. get_or values p val.Null) places)
+    → length fields ≡ length columns → fields_due line 1 columns fields ≡ Ok values → places_named t.columns names ≡ Some places
+    → record_due line t names columns fields ≡ Ok (map (λ p. get_or values p val.Null) places)
 record_due-arranged line t names columns fields places values same due placed =
     rw (eq-eqb (length fields) (length columns) same, due) (ap Ok (in_catalog_order-places t.columns names places values placed))

@@ -75,8 +75,8 @@ number_fits : (ty : Ty) (s : List ℕ) (v : Val) → ok_or (option_map val.Int (
 number_fits ty s v e = by (is_whole_number s && int_fits ty (signed_digits_value 10 s)) refl e
   where
     by : (b : Bool) → (is_whole_number s && int_fits ty (signed_digits_value 10 s)) ≡ b
-      → ok_or (option_map val.Int (cond b (Some (signed_digits_value 10 s)) None)) NotInteger ≡ Ok v
-      → (n : ℤ) × (v ≡ val.Int n) × (int_fits ty n ≡ true)
+        → ok_or (option_map val.Int (cond b (Some (signed_digits_value 10 s)) None)) NotInteger ≡ Ok v
+        → (n : ℤ) × (v ≡ val.Int n) × (int_fits ty n ≡ true)
     by true is e = (signed_digits_value 10 s, cc, (and_parts (is_whole_number s) (int_fits ty (signed_digits_value 10 s)) is).1)
     by false is e = cc
 
@@ -127,9 +127,9 @@ fields_due-fits line col (c ∷ cs) (f ∷ fs) vs many e =
 
 -- the value under a name, in front or behind
 one_named : (c : Column) (n : List ℕ) (ns : List (List ℕ)) (v : Val) (vs : List Val) (b : Bool) → bytes_eq c.name n ≡ b
-  → (bytes_eq c.name n ≡ true → value_fits c v ≡ true)
-  → (list_any (bytes_eq c.name) ns ≡ true → value_fits c (value_named ns vs c.name) ≡ true) → (b || list_any (bytes_eq c.name) ns) ≡ true
-  → value_fits c (value_named (n ∷ ns) (v ∷ vs) c.name) ≡ true
+    → (bytes_eq c.name n ≡ true → value_fits c v ≡ true)
+    → (list_any (bytes_eq c.name) ns ≡ true → value_fits c (value_named ns vs c.name) ≡ true) → (b || list_any (bytes_eq c.name) ns) ≡ true
+    → value_fits c (value_named (n ∷ ns) (v ∷ vs) c.name) ≡ true
 one_named c n ns v vs true is here later named = rw is (here is)
 one_named c n ns v vs false is here later named = rw is (later named)
 
@@ -139,8 +139,8 @@ some_same o x y p q = cc
 
 -- the value under a column's name fits it
 value_named-fits : (columns : List Column) (c : Column) (names : List (List ℕ)) (cs : List Column) (vs : List Val)
-  → find (λ d. bytes_eq d.name c.name) columns ≡ Some c → columns_named columns names ≡ Some cs → row_fits cs vs ≡ true
-  → list_any (bytes_eq c.name) names ≡ true → value_fits c (value_named names vs c.name) ≡ true
+    → find (λ d. bytes_eq d.name c.name) columns ≡ Some c → columns_named columns names ≡ Some cs → row_fits cs vs ≡ true
+    → list_any (bytes_eq c.name) names ≡ true → value_fits c (value_named names vs c.name) ≡ true
 value_named-fits columns c [] cs vs self e fits named = absurd (false≢true named)
 value_named-fits columns c (n ∷ ns) cs [] self e fits named =
     let h = head_of (find (λ d. bytes_eq d.name n) columns) (columns_named columns ns) cs e in
@@ -155,7 +155,7 @@ value_named-fits columns c (n ∷ ns) cs (v ∷ vs) self e fits named =
 
 -- among columns with different names each is found by its own
 found_past : (d : Column) (columns cs : List Column) → Each (λ c. find (λ e. bytes_eq e.name c.name) columns ≡ Some c) cs
-  → list_any (λ e. bytes_eq d.name e.name) cs ≡ false → Each (λ c. find (λ e. bytes_eq e.name c.name) (d ∷ columns) ≡ Some c) cs
+    → list_any (λ e. bytes_eq d.name e.name) cs ≡ false → Each (λ c. find (λ e. bytes_eq e.name c.name) (d ∷ columns) ≡ Some c) cs
 found_past d columns [] h other = tt
 found_past d columns (c ∷ cs) h other =
     let unlike = or_parts (bytes_eq d.name c.name) (list_any (λ e. bytes_eq d.name e.name) cs) other in
@@ -170,8 +170,8 @@ found_self (d ∷ columns) differ =
 
 -- the values in the catalog's order fit the columns
 in_order-fits : (columns : List Column) (names : List (List ℕ)) (cs : List Column) (vs : List Val) (some : List Column)
-  → Each (λ c. find (λ e. bytes_eq e.name c.name) columns ≡ Some c) some → list_all (λ c. list_any (bytes_eq c.name) names) some ≡ true
-  → columns_named columns names ≡ Some cs → row_fits cs vs ≡ true → row_fits some (in_catalog_order some names vs) ≡ true
+    → Each (λ c. find (λ e. bytes_eq e.name c.name) columns ≡ Some c) some → list_all (λ c. list_any (bytes_eq c.name) names) some ≡ true
+    → columns_named columns names ≡ Some cs → row_fits cs vs ≡ true → row_fits some (in_catalog_order some names vs) ≡ true
 in_order-fits columns names cs vs [] self named e fits = refl
 in_order-fits columns names cs vs (c ∷ some) self named e fits =
     let parts = and_parts (list_any (bytes_eq c.name) names) (list_all (λ c. list_any (bytes_eq c.name) names) some) named in
@@ -181,12 +181,12 @@ in_order-fits columns names cs vs (c ∷ some) self named e fits =
 
 -- what a header that is taken tells
 header_parts : (columns : List Column) (names : List (List ℕ)) (cs : List Column) → header_due columns names ≡ Some cs
-  → (list_all (λ c. list_any (bytes_eq c.name) names) columns ≡ true) × (columns_named columns names ≡ Some cs)
+    → (list_all (λ c. list_any (bytes_eq c.name) names) columns ≡ true) × (columns_named columns names ≡ Some cs)
 header_parts columns names cs e = by (length names == length columns) (list_all (λ c. list_any (bytes_eq c.name) names) columns) refl e
   where
     by : (a b : Bool) → list_all (λ c. list_any (bytes_eq c.name) names) columns ≡ b
-      → cond (a && b) (columns_named columns names) None ≡ Some cs
-      → (list_all (λ c. list_any (bytes_eq c.name) names) columns ≡ true) × (columns_named columns names ≡ Some cs)
+        → cond (a && b) (columns_named columns names) None ≡ Some cs
+        → (list_all (λ c. list_any (bytes_eq c.name) names) columns ≡ true) × (columns_named columns names ≡ Some cs)
     by true true is e = (is, e)
     by true false is e = cc
     by false b is e = cc
@@ -198,13 +198,13 @@ mapped_ok f (Err w) y e = cc
 
 -- the row of a record fits the columns of the table
 record_due-fits : (line : ℕ) (t : Table) (names : List (List ℕ)) (columns : List Column) (fields : List (List ℕ)) (row : Row)
-  → names_differ t.columns ≡ true → header_due t.columns names ≡ Some columns → record_due line t names columns fields ≡ Ok row
-  → row_fits t.columns row ≡ true
+    → names_differ t.columns ≡ true → header_due t.columns names ≡ Some columns → record_due line t names columns fields ≡ Ok row
+    → row_fits t.columns row ≡ true
 record_due-fits line t names columns fields row differ header e = by (length fields == length columns) refl e
   where
     by : (b : Bool) → (length fields == length columns) ≡ b
-      → cond b (mapped (in_catalog_order t.columns names) (fields_due line 1 columns fields)) (Err (Width line)) ≡ Ok row
-      → row_fits t.columns row ≡ true
+        → cond b (mapped (in_catalog_order t.columns names) (fields_due line 1 columns fields)) (Err (Width line)) ≡ Ok row
+        → row_fits t.columns row ≡ true
     by false is e = cc
     by true is e =
         let h = header_parts t.columns names columns header in
@@ -216,8 +216,8 @@ record_due-fits line t names columns fields row differ header e = by (length fie
 
 -- the row behind others is that of its record, and none of them has its key
 row_parts : (t : Table) (names : List (List ℕ)) (columns : List Column) (rows : List Row) (fields : List (List ℕ)) (row : Row)
-  → row_due t names columns rows fields ≡ Ok row
-  → (record_due (length rows + 2) t names columns fields ≡ Ok row) × (line_of_key t rows (key_of t row) ≡ None)
+    → row_due t names columns rows fields ≡ Ok row
+    → (record_due (length rows + 2) t names columns fields ≡ Ok row) × (line_of_key t rows (key_of t row) ≡ None)
 row_parts t names columns rows fields row e = by (record_due (length rows + 2) t names columns fields) e
   where
     at : (r : Row) (o : Option ℕ) → line_of_key t rows (key_of t r) ≡ o → unless_repeated (length rows + 2) r o ≡ Ok row → (r ≡ row) × (line_of_key t rows (key_of t r) ≡ None)
@@ -225,8 +225,8 @@ row_parts t names columns rows fields row e = by (record_due (length rows + 2) t
     at r (Some n) is e = cc
 
     by : (q : Result Row LoadRefusal)
-      → and_then (λ row. unless_repeated (length rows + 2) row (line_of_key t rows (key_of t row))) q ≡ Ok row
-      → (q ≡ Ok row) × (line_of_key t rows (key_of t row) ≡ None)
+        → and_then (λ row. unless_repeated (length rows + 2) row (line_of_key t rows (key_of t row))) q ≡ Ok row
+        → (q ≡ Ok row) × (line_of_key t rows (key_of t row) ≡ None)
     by (Ok r) e = let h = at r (line_of_key t rows (key_of t r)) refl e in (ap Ok h.0, sym (ap (λ x. line_of_key t rows (key_of t x)) h.0) ∙ h.1)
     by (Err w) e = cc
 
@@ -260,8 +260,8 @@ first_of f (Err w) y e = cc
 -- the rows of the records behind valid rows are valid with them, and as many more
 rows_due-keeps : (t : Table) (names : List (List ℕ)) (columns : List Column) (before : List Row) (rs : List (List (List ℕ)))
     (rows : List Row)
-  → names_differ t.columns ≡ true → header_due t.columns names ≡ Some columns → IsValid t before
-  → rows_due t names columns before rs ≡ Ok rows → IsValid t rows × (length rows ≡ length before + length rs)
+    → names_differ t.columns ≡ true → header_due t.columns names ≡ Some columns → IsValid t before
+    → rows_due t names columns before rs ≡ Ok rows → IsValid t rows × (length rows ≡ length before + length rs)
 rows_due-keeps t names columns before [] rows differ header valid e = let same : before ≡ rows = cc in (subst (IsValid t) same valid, sym (ap length same) ∙ sym (add-zero (length before)))
 rows_due-keeps t names columns before (r ∷ rs) rows differ header valid e =
     let h = first_of (λ row. rows_due t names columns (before ++ row ∷ []) rs) (row_due t names columns before r) rows e in
@@ -272,8 +272,8 @@ rows_due-keeps t names columns before (r ∷ rs) rows differ header valid e =
 
 -- the rows of a file's records are valid for the table
 pub rows_due-valid : (t : Table) (names : List (List ℕ)) (columns : List Column) (rs : List (List (List ℕ))) (rows : List Row)
-  → names_differ t.columns ≡ true → header_due t.columns names ≡ Some columns → length rs < 2 ^ 31
-  → rows_due t names columns [] rs ≡ Ok rows → are_rows t rows ≡ true
+    → names_differ t.columns ≡ true → header_due t.columns names ≡ Some columns → length rs < 2 ^ 31
+    → rows_due t names columns [] rs ≡ Ok rows → are_rows t rows ≡ true
 rows_due-valid t names columns rs rows differ header few e =
     let h = rows_due-keeps t names columns [] rs rows differ header (record { fits = refl; differ = refl }) e in
     let short = lt-ltb (length rows) (2 ^ 31) (omega (arith, h.1, few)) in

@@ -42,7 +42,7 @@ fits_wide Boolean n h = absurd (false≢true h)
 
 -- a number that was read, and that the type holds
 pub whole_number-parsed : (ty : Ty) (s : List ℕ) (n : ℤ) → slice_index s 0 ≢ 43 → IsNumeral 10 (without_leading_sign s)
-  → n ≡ signed_digits_value 10 s → int_fits ty n ≡ true → Some n ≡ whole_number ty s
+    → n ≡ signed_digits_value 10 s → int_fits ty n ≡ true → Some n ≡ whole_number ty s
 whole_number-parsed ty s n no_plus is same fits =
     let spelled = (numeral_signed s no_plus).1 is in
     let held = subst (λ z. int_fits ty z ≡ true) same fits in

@@ -14,14 +14,14 @@ ReadsBy {X} F D = (x : X) (xs : List X) → F (x ∷ xs) ≡ and_then (λ y. map
 
 -- the list from a place on begins with the item there, which is read first
 read_first : {X B E : Type 0} (F : List X → Result (List B) E) (D : X → Result B E) → ReadsBy F D → (xs : List X) (i : ℕ) (x : X)
-  → i < length xs → x ≡ get_or xs i x → F (drop i xs) ≡ and_then (λ y. mapped (λ ys. y ∷ ys) (F (drop (i + 1) xs))) (D x)
+    → i < length xs → x ≡ get_or xs i x → F (drop i xs) ≡ and_then (λ y. mapped (λ ys. y ∷ ys) (F (drop (i + 1) xs))) (D x)
 read_first F D reads xs i x below is = ap F (drop_more xs i x below ∙ ap (λ y. y ∷ drop (i + 1) xs) (sym is)) ∙ reads x (drop (i + 1) xs)
 
 -- an item is read, and the loop goes on behind it
 pub read_more : {X B E : Type 0} (F : List X → Result (List B) E) (D : X → Result B E) → ReadsBy F D
-  → (xs : List X) (i : ℕ) (x : X) (done more : List B) (y : B) (whole : Result (List B) E)
-  → whole ≡ mapped (λ ys. done ++ ys) (F (drop i xs)) → i < length xs → x ≡ get_or xs i x → D x ≡ Ok y → more ≡ done ++ y ∷ []
-  → whole ≡ mapped (λ ys. more ++ ys) (F (drop (i + 1) xs))
+    → (xs : List X) (i : ℕ) (x : X) (done more : List B) (y : B) (whole : Result (List B) E)
+    → whole ≡ mapped (λ ys. done ++ ys) (F (drop i xs)) → i < length xs → x ≡ get_or xs i x → D x ≡ Ok y → more ≡ done ++ y ∷ []
+    → whole ≡ mapped (λ ys. more ++ ys) (F (drop (i + 1) xs))
 read_more F D reads xs i x done more y whole so_far below is given grows =
     so_far
     ∙ ap (mapped (λ ys. done ++ ys)) (read_first F D reads xs i x below is ∙ ap (and_then (λ z. mapped (λ ys. z ∷ ys) (F (drop (i + 1) xs)))) given)
@@ -30,8 +30,8 @@ read_more F D reads xs i x done more y whole so_far below is given grows =
 
 -- an item is refused, and so the whole
 pub read_refused : {X B E : Type 0} (F : List X → Result (List B) E) (D : X → Result B E) → ReadsBy F D
-  → (xs : List X) (i : ℕ) (x : X) (done : List B) (e : E) (whole : Result (List B) E) → whole ≡ mapped (λ ys. done ++ ys) (F (drop i xs))
-  → i < length xs → x ≡ get_or xs i x → D x ≡ Err e → whole ≡ Err e
+    → (xs : List X) (i : ℕ) (x : X) (done : List B) (e : E) (whole : Result (List B) E) → whole ≡ mapped (λ ys. done ++ ys) (F (drop i xs))
+    → i < length xs → x ≡ get_or xs i x → D x ≡ Err e → whole ≡ Err e
 read_refused F D reads xs i x done e whole so_far below is given =
     so_far
     ∙ ap (mapped (λ ys. done ++ ys)) (read_first F D reads xs i x below is ∙ ap (and_then (λ z. mapped (λ ys. z ∷ ys) (F (drop (i + 1) xs)))) given)
@@ -43,8 +43,8 @@ taken_more xs i x done more y so_far below is same grows =
 
 -- the same of copies that are seen by a function
 pub map_taken-more : {A B : Type 0} (view : A → B) (xs : List A) (i : ℕ) (x : A) (done more : List A) (y : A)
-  → map view done ≡ map view (take i xs) → i < length xs → x ≡ get_or xs i x → view y ≡ view x → more ≡ done ++ y ∷ []
-  → map view more ≡ map view (take (i + 1) xs)
+    → map view done ≡ map view (take i xs) → i < length xs → x ≡ get_or xs i x → view y ≡ view x → more ≡ done ++ y ∷ []
+    → map view more ≡ map view (take (i + 1) xs)
 map_taken-more view xs i x done more y so_far below is same grows =
     ap (map view) grows
     ∙ map-append view done (y ∷ [])

@@ -379,9 +379,9 @@ unrated = refl
 abbrev by_author : (desc nulls_first : Bool) → Grants → List CellTree
 by_author desc nulls_first g =
     ids
-      (selected schema (seen_by schema g database) 1
-         (record plain { sorts = record { through = 0 ∷ []; column = 1; desc = desc; nulls_first = nulls_first } ∷ [] }) None
-         (permitted schema g database 1))
+    (selected schema (seen_by schema g database) 1
+    (record plain { sorts = record { through = 0 ∷ []; column = 1; desc = desc; nulls_first = nulls_first } ∷ [] }) None
+    (permitted schema g database 1))
 
 by_author_to_others : by_author false false (granted (codes "others")) ∷ by_author true true (granted (codes "others")) ∷ [] ≡ numbers (12 ∷ 10 ∷ 11 ∷ 13 ∷ []) ∷ numbers (10 ∷ 11 ∷ 13 ∷ 12 ∷ []) ∷ []
 by_author_to_others = refl

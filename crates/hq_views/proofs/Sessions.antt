@@ -41,7 +41,7 @@ columns_kept p s vars t c h =
 
 -- what the permission of a role allows of a column is readable where the permission is bound
 bound_readable : (o : Option Permission) (s : Schema) (vars : List Var) (t c : ℕ) → list_any (λ d. d == c) (permitted_columns o) ≡ true
-  → is_readable_in (option_and_then (λ p. result_ok (bound_permission p s vars t)) o) c ≡ true
+    → is_readable_in (option_and_then (λ p. result_ok (bound_permission p s vars t)) o) c ≡ true
 bound_readable None s vars t c h = refl
 bound_readable (Some p) s vars t c h = columns_kept p s vars t c h
 
@@ -54,7 +54,7 @@ module _ (tables : List Table) (m : MetaTree) (session : Session) where
 
   -- what a session is granted of a table of the catalog; beyond it there is nothing
   readable_there : (t c : ℕ) (o : Option SchemaTable) → slice_get s t ≡ o → (allowed_to (role_of session.role) m s).column t c ≡ true
-    → is_readable_in (unwrap_or (option_map (grant_of session m s t) o) None) c ≡ true
+      → is_readable_in (unwrap_or (option_map (grant_of session m s t) o) None) c ≡ true
   readable_there t c None is h = refl
   readable_there t c (Some x) is h = bound_readable (permission (role_of session.role) m t) s session.vars t c h
 
@@ -78,8 +78,8 @@ views_decide tables m session a d role h =
     let g : Grants = grants_of session tables m in
     let long : length tables ≡ length s = sym (numbered_long (schema_table m) 0 tables) in
     let uses =
-        uses_weaken s (allowed_to (role_of session.role) m s) (granted s g) (granted_there tables m session) a.fields (length tables)
-          (subst (λ r. UsesAll a.fields s (allowed_to r m s) (length tables)) role h.uses) in
+    uses_weaken s (allowed_to (role_of session.role) m s) (granted s g) (granted_there tables m session) a.fields (length tables)
+    (subst (λ r. UsesAll a.fields s (allowed_to r m s) (length tables)) role h.uses) in
     fields_alike a.fields s g d (subst (AllStand a.fields s) long h.stand) (subst (UsesAll a.fields s (granted s g)) long uses)
 
 pub worlds_agree : (tables : List Table) (m : MetaTree) (session : Session) (a : AskTree) (d e : List (List Row)) → WorldsAgree tables m session a d e

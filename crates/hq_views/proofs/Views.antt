@@ -139,7 +139,7 @@ seen_rows s g d t =
     ap (λ o. unwrap_or o []) (got_numbered (view_table s d) g 0 t None None (λ j. refl) ∙ ap (λ u. view_table s d u (slice_index_or g t None)) zeroth) ∙ entry_rows (slice_index_or g t None) s d t
 
 seen_links : (s : Schema) (g : Grants) (d : List (List Row)) (t r : ℕ) → is_some (slice_get (table s t).rels r) ≡ true
-  → slice_index_or (slice_index_or (view s g d).links t []) r [] ≡ view_links s g d t (rel s t r)
+    → slice_index_or (slice_index_or (view s g d).links t []) r [] ≡ view_links s g d t (rel s t r)
 seen_links s g d t r h =
     let zeroth : 0 + t ≡ t = omega arith in
     ap (λ l. slice_index_or l r []) (got_numbered (λ u tab. map (view_links s g d u) tab.rels) s 0 t no_table [] (λ j. refl) ∙ ap (λ u. map (view_links s g d u) (table s t).rels) zeroth)
@@ -147,7 +147,7 @@ seen_links s g d t r h =
 
 -- a row that is permitted has each readable column among those that are granted
 readable : (s : Schema) (g : Grants) (d : List (List Row)) (t c i : ℕ) (x : Row) → is_readable_in (slice_index_or g t None) c ≡ true
-  → At s g d t x i → list_any (λ k. k == c) (grant g t).columns ≡ true
+    → At s g d t x i → list_any (λ k. k == c) (grant g t).columns ≡ true
 readable s g d t c i x ok at =
     let go : (b : Option Permission) → slice_index_or g t None ≡ b → is_readable_in b c ≡ true → list_any (λ k. k == c) (grant g t).columns ≡ true =
     elim [
@@ -163,8 +163,8 @@ pub view_alike : (s : Schema) (g : Grants) (d : List (List Row)) → Alike s (se
 view_alike s g d = record {
   rows =
       λ t h. rw (seen_rows s g d t)
-        (placed (λ row. cut (grant g t).columns (shown s g d t row)) (permitted s g d t) (permitted s g d t) 0
-           (λ j. let zeroth : 0 + j ≡ j = omega arith in ap (slice_get (permitted s g d t)) zeroth));
+      (placed (λ row. cut (grant g t).columns (shown s g d t row)) (permitted s g d t) (permitted s g d t) 0
+      (λ j. let zeroth : 0 + j ≡ j = omega arith in ap (slice_get (permitted s g d t)) zeroth));
   cells = λ t c x i ok at.
       sym (ap (λ l. cut_cell (slice_index_or l i []) c) (seen_rows s g d t)
       ∙ ap (λ l. cut_cell l c) (got_map (λ row. cut (grant g t).columns (shown s g d t row)) (permitted s g d t) i x [] at)

@@ -204,10 +204,10 @@ joins::gather_put_off-returns-then-not-is_empty t c =
     let lists : map (beside r w (with_alias n j.alias (first_row (rows_of j.select w n)))) views ≡ kept_items keeps (joined r w (with_alias n j.alias (first_row (rows_of j.select w n)))) =
     subst (λ s. map (beside r w (with_alias n j.alias (first_row (rows_of s w n)))) views ≡ kept_items keeps (joined r w (with_alias n j.alias (first_row (rows_of s w n))))) later
     (subst
-         (λ a. map (beside r w (with_alias n a (first_row (rows_of (select_view c.deref.result.now) w n)))) views
-            ≡ kept_items keeps (joined r w (with_alias n a (first_row (rows_of (select_view c.deref.result.now) w n)))))
-         alias_is c.in_ok-lists.ensures)
-      in
+    (λ a. map (beside r w (with_alias n a (first_row (rows_of (select_view c.deref.result.now) w n)))) views
+    ≡ kept_items keeps (joined r w (with_alias n a (first_row (rows_of (select_view c.deref.result.now) w n)))))
+    alias_is c.in_ok-lists.ensures)
+    in
     IfOk-weaker c.with_row.result _ _ (λ out h. ap (map (beside (join_in j r) w n)) h ∙ keys_is j.select j.alias r w n keeps c.requires (made_view c.in_ok-row.row) row views lists) c.with_row.ensures
 
 pub joins::gather_put_off-returns : goal.joins::gather_put_off-returns
@@ -223,10 +223,10 @@ joins::gather_put_off-returns t c =
     let lists : map (beside r w (with_alias n j.alias (first_row (rows_of j.select w n)))) views ≡ kept_items keeps (joined r w (with_alias n j.alias (first_row (rows_of j.select w n)))) =
     subst (λ s. map (beside r w (with_alias n j.alias (first_row (rows_of s w n)))) views ≡ kept_items keeps (joined r w (with_alias n j.alias (first_row (rows_of s w n))))) later
     (subst
-         (λ a. map (beside r w (with_alias n a (first_row (rows_of (select_view c.deref.result.now) w n)))) views
-            ≡ kept_items keeps (joined r w (with_alias n a (first_row (rows_of (select_view c.deref.result.now) w n)))))
-         alias_is c.in_ok-lists.ensures)
-      in
+    (λ a. map (beside r w (with_alias n a (first_row (rows_of (select_view c.deref.result.now) w n)))) views
+    ≡ kept_items keeps (joined r w (with_alias n a (first_row (rows_of (select_view c.deref.result.now) w n)))))
+    alias_is c.in_ok-lists.ensures)
+    in
     IfOk-weaker c.with_none.result _ _ (λ out h. ap (map (beside (join_in j r) w n)) h ∙ later_is j.select j.alias r w n keeps c.requires views lists) c.with_none.ensures
 
 pub joins::spread-loop-row-preserved : goal.joins::spread-loop-row-preserved
@@ -292,9 +292,9 @@ scans::any_row-keeps_some-requires t c =
     let f = filter_view c.args.filter.now in
     let alone = IfSome_then c.args.known c.requires.known (λ k h. h.alone) in
     let tells =
-        IfSome_then c.args.known c.requires.known
-          (λ k h lt. tells_at w c.args.source c.args.alias.now js f k.now n c.position_at-position.result (row_view c.row_at.result) h
-             c.row_at.ensures lt) in
+    IfSome_then c.args.known c.requires.known
+    (λ k h lt. tells_at w c.args.source c.args.alias.now js f k.now n c.position_at-position.result (row_view c.row_at.result) h
+    c.row_at.ensures lt) in
     (omega arith, (alone, (tells, c.requires.lighter)))
 
 pub scans::any_row-returns-then-keeps : goal.scans::any_row-returns-then-keeps
@@ -339,11 +339,11 @@ scans::any_row-returns t c =
     let long : length rs ≡ length ps = length-map ps (row_in c.args.source) in
     let all : length rs ≤ c.loop-turn.turn = omega (arith, long, c.loop-turn-test.false, c.number_of-turn-end.ensures) in
     let none =
-        subst
-          (λ l. kept_of (joins_of (map join_view c.args.joins.now)) w (names_of c.args.scope.now c.args.world.now) c.args.alias.now
-               (kept (filter_view c.args.filter.now) w) l
-             ≡ [])
-          (take_all c.loop-turn.turn rs all) c.loop-turn.invariant in
+    subst
+    (λ l. kept_of (joins_of (map join_view c.args.joins.now)) w (names_of c.args.scope.now c.args.world.now) c.args.alias.now
+    (kept (filter_view c.args.filter.now) w) l
+    ≡ [])
+    (take_all c.loop-turn.turn rs all) c.loop-turn.invariant in
     ap has_items (sym none ∙ c.in_ok-looked.ensures w)
 
 pub scans::scan_from-loop-turn-preserved : goal.scans::scan_from-loop-turn-preserved
@@ -365,7 +365,7 @@ scans::scan_from-loop-turn-preserved t c =
       from = omega (arith, c.loop-turn.invariant.from);
       places = ap (λ l. before ++ map (names_at c.args.source a js w n) l) c.in_ok-add_places.ensures
           ∙ scan_step js w n a keeps before c.args.source rs i c.position_at-position.result (row_view c.row_at.result)
-            c.loop-turn.places.items c.in_ok-lists.lists.items lt at c.row_at.ensures c.in_ok-lists.ensures c.loop-turn.invariant.places;
+          c.loop-turn.places.items c.in_ok-lists.lists.items lt at c.row_at.ensures c.in_ok-lists.ensures c.loop-turn.invariant.places;
     }
 
 pub scans::scan_from-returns-then-has_enough-clause-places : goal.scans::scan_from-returns-then-has_enough-clause-places
@@ -385,7 +385,7 @@ scans::scan_from-returns-then-has_enough-clause-places t c =
     let at : row_in c.args.source c.position_at-position.result ≡ get_or rs i [] = ap (row_in c.args.source) c.position_at-position.ensures ∙ sym (at_place c.args.source ps i within) in
     ap (λ l. before ++ map (names_at c.args.source a js w n) l) c.in_ok-add_places.ensures
     ∙ scan_step js w n a keeps before c.args.source rs i c.position_at-position.result (row_view c.row_at.result) c.loop-turn.places.items
-      c.in_ok-lists.lists.items lt at c.row_at.ensures c.in_ok-lists.ensures c.loop-turn.invariant.places
+    c.in_ok-lists.lists.items lt at c.row_at.ensures c.in_ok-lists.ensures c.loop-turn.invariant.places
 
 pub scans::scan_from-returns-clause-places : goal.scans::scan_from-returns-clause-places
 scans::scan_from-returns-clause-places t c =
@@ -410,8 +410,8 @@ pages::in_order-returns-then-is_empty-2 t c =
     let first : c.args.order.now.len ≡ length c.args.order.now.items = omega (arith, c.args.order.now.ok.0) in
     let second : c.args.distinct.now.len ≡ length c.args.distinct.now.items = omega (arith, c.args.distinct.now.ok.0) in
     none_arranged c.args.order.now.items c.args.distinct.now.items _
-      (subst (λ k. (k == 0) ≡ true) first (sym c.is_empty.ensures ∙ c.if-is_empty.true))
-      (subst (λ k. (k == 0) ≡ true) second (sym c.is_empty-then-is_empty.ensures ∙ c.if-is_empty-2.true))
+    (subst (λ k. (k == 0) ≡ true) first (sym c.is_empty.ensures ∙ c.if-is_empty.true))
+    (subst (λ k. (k == 0) ≡ true) second (sym c.is_empty-then-is_empty.ensures ∙ c.if-is_empty-2.true))
 
 pub pages::in_order-returns : goal.pages::in_order-returns
 pages::in_order-returns t c =
@@ -426,8 +426,8 @@ pages::page-returns-in-Arranged t c =
     let D = map expr_view c.args.parts.distinct.now.items in
     let K = map order_view c.args.parts.order.now.items in
     let finds : FindsArranged js c.args.scope.now c.args.alias.now (filter_view c.args.parts.filter.now) D K c.args.source
-        (rows_at c.args.source c.in-Arranged.at) =
-        rw c.in-Arranged.is at c.in_ok-looked.ensures in
+    (rows_at c.args.source c.in-Arranged.at) =
+    rw c.in-Arranged.is at c.in_ok-looked.ensures in
     IfOk-weaker c.page_front.result _ _ (λ places h. h ∙ ap (λ l. limited c.args.limit (offset_by c.args.offset l)) (finds (world_of c.args.world.now))) c.page_front.ensures
 
 pub pages::page-returns-in-Some : goal.pages::page-returns-in-Some
@@ -436,13 +436,13 @@ pages::page-returns-in-Some t c =
     let D = map expr_view c.args.parts.distinct.now.items in
     let K = map order_view c.args.parts.order.now.items in
     let finds : FindsAll js c.args.scope.now c.args.alias.now (filter_view c.args.parts.filter.now) c.args.source
-        (rows_at c.args.source c.in-Unsorted.at) =
-        rw c.in-Unsorted.is at c.in_ok-looked.ensures in
+    (rows_at c.args.source c.in-Unsorted.at) =
+    rw c.in-Unsorted.is at c.in_ok-looked.ensures in
     IfOk-weaker c.page_top.result _ _
-      (λ places h. h
-         ∙ ap (λ l. limited c.args.limit (offset_by c.args.offset (distinct_on D (sort (order_cmp K) l))))
-           (finds (world_of c.args.world.now)))
-      c.page_top.ensures
+    (λ places h. h
+    ∙ ap (λ l. limited c.args.limit (offset_by c.args.offset (distinct_on D (sort (order_cmp K) l))))
+    (finds (world_of c.args.world.now)))
+    c.page_top.ensures
 
 pub pages::page-returns-in-None : goal.pages::page-returns-in-None
 pages::page-returns-in-None t c =
@@ -450,13 +450,13 @@ pages::page-returns-in-None t c =
     let D = map expr_view c.args.parts.distinct.now.items in
     let K = map order_view c.args.parts.order.now.items in
     let finds : FindsAll js c.args.scope.now c.args.alias.now (filter_view c.args.parts.filter.now) c.args.source
-        (rows_at c.args.source c.in-Unsorted.at) =
-        rw c.in-Unsorted.is at c.in_ok-looked.ensures in
+    (rows_at c.args.source c.in-Unsorted.at) =
+    rw c.in-Unsorted.is at c.in_ok-looked.ensures in
     IfOk-weaker c.page_sorted.result _ _
-      (λ places h. h
-         ∙ ap (λ l. limited c.args.limit (offset_by c.args.offset (distinct_on D (sort (order_cmp K) l))))
-           (finds (world_of c.args.world.now)))
-      c.page_sorted.ensures
+    (λ places h. h
+    ∙ ap (λ l. limited c.args.limit (offset_by c.args.offset (distinct_on D (sort (order_cmp K) l))))
+    (finds (world_of c.args.world.now)))
+    c.page_sorted.ensures
 
 pub pages::page_front-returns : goal.pages::page_front-returns
 pages::page_front-returns t c =
@@ -472,7 +472,7 @@ pages::page_front-returns t c =
     let long : length ps ≡ length rs = sym (length-map ps (row_in c.args.source)) in
     ap (map P) c.paged-page.ensures ∙ paged_map P c.args.limit c.args.offset found
     ∙ page_front js w n a keeps c.args.limit c.args.offset c.enough-bound.result rs c.in_ok-found.found.next (length ps) (map P found)
-      (length found) c.enough-bound.ensures c.in_ok-found.ensures.places (sym (length-map found P)) c.in_ok-found.ensures.whole long
+    (length found) c.enough-bound.ensures c.in_ok-found.ensures.places (sym (length-map found P)) c.in_ok-found.ensures.whole long
 
 pub pages::page_top-loop-next-preserved : goal.pages::page_top-loop-next-preserved
 pages::page_top-loop-next-preserved t c =
@@ -490,12 +490,12 @@ pages::page_top-loop-next-preserved t c =
     let found = c.in_ok-found.found.places.items in
     let sorted : map P c.in_ok-sorted.sorted.items ≡ sort (order_cmp K) (map P old ++ map P found) =
     c.in_ok-sorted.ensures ∙ ap (λ xs. distinct_on (map expr_view xs) (sort (order_cmp K) (map P c.in_ok-all.all.items))) c.requires.alone
-      ∙ ap (sort (order_cmp K)) (ap (map P) c.in_ok-all.ensures ∙ map-append P old found) in
+    ∙ ap (sort (order_cmp K)) (ap (map P) c.in_ok-all.ensures ∙ map-append P old found) in
     record {
       within = c.in_ok-found.ensures.within;
       top = ap (map P) c.paged-top.ensures ∙ paged_map P (Some c.args.bound) None c.in_ok-sorted.sorted.items
           ∙ top_step js w n a keeps K c.args.bound c.loop-next.next c.in_ok-found.found.next rs (map P old) (map P found)
-            (map P c.in_ok-sorted.sorted.items) c.loop-next.invariant.top c.in_ok-found.ensures.places sorted;
+          (map P c.in_ok-sorted.sorted.items) c.loop-next.invariant.top c.in_ok-found.ensures.places sorted;
     }
 
 pub pages::page_top-returns : goal.pages::page_top-returns
@@ -533,9 +533,9 @@ pages::page_sorted-returns t c =
     ap (map P) c.paged-page.ensures ∙ paged_map P c.args.limit c.args.offset c.in_ok-sorted.sorted.items
     ∙ ap (λ l. limited c.args.limit (offset_by c.args.offset l))
     (c.in_ok-sorted.ensures
-       ∙ ap (λ l. distinct_on D (sort (order_cmp K) l))
-         (scan_all js w n a keeps rs c.in_ok-found.found.next (length ps) (map P found) c.in_ok-found.ensures.places
-            (c.in_ok-found.ensures.whole refl) long))
+    ∙ ap (λ l. distinct_on D (sort (order_cmp K) l))
+    (scan_all js w n a keeps rs c.in_ok-found.found.next (length ps) (map P found) c.in_ok-found.ensures.places
+    (c.in_ok-found.ensures.whole refl) long))
 
 pub clauses::rows_over-returns : goal.clauses::rows_over-returns
 clauses::rows_over-returns t c =
@@ -551,11 +551,11 @@ clauses::rows_over-returns t c =
     (λ rows h.
     h ∙ outputs_all O (map P c.as_slice-places.result.now) ∙ ap (map (outputs O [])) (ap (map P) c.as_slice-places.ensures.value ∙ c.in_ok-paged.ensures)
     ∙ ap₂
-      (λ a given. map (outputs O [])
-         (limited c.args.limit
-            (offset_by c.args.offset
-               (distinct_on D (sort (order_cmp K) (kept_items keeps (flat_map (joined js w) (map (with_alias n a) given))))))))
-      c.alias_of-alias.ensures c.source_of-source.ensures)
+    (λ a given. map (outputs O [])
+    (limited c.args.limit
+    (offset_by c.args.offset
+    (distinct_on D (sort (order_cmp K) (kept_items keeps (flat_map (joined js w) (map (with_alias n a) given))))))))
+    c.alias_of-alias.ensures c.source_of-source.ensures)
     c.all_outputs.ensures
 
 pub clauses::rows-returns-in_ok-made-in-Rows : goal.clauses::rows-returns-in_ok-made-in-Rows
@@ -574,14 +574,14 @@ clauses::rows-returns-in_ok-made-in-Rows t c =
     (λ all h.
     h
     ∙ ap₂
-      (λ js given. map (outputs O [])
-         (limited c.in-Rows.limit
-            (offset_by c.in-Rows.offset
-               (distinct_on D
-                  (sort (order_cmp K)
-                     (kept_items (kept C w)
-                        (flat_map (joined (joins_of (map join_view js)) w)
-                           (map (with_alias n (alias_in F)) (rows_given F w (map made_view given))))))))))
+    (λ js given. map (outputs O [])
+    (limited c.in-Rows.limit
+    (offset_by c.in-Rows.offset
+    (distinct_on D
+    (sort (order_cmp K)
+    (kept_items (kept C w)
+    (flat_map (joined (joins_of (map join_view js)) w)
+    (map (with_alias n (alias_in F)) (rows_given F w (map made_view given))))))))))
     c.as_slice-list.ensures.value c.as_slice-given.ensures.value
     ∙ rows_are D O F J C K c.in-Rows.limit c.in-Rows.offset w n (map made_view c.in_ok-made-in-Rows.made.items) c.in_ok-made-in-Rows.ensures)
     c.rows_over.ensures)
@@ -603,12 +603,12 @@ truths::exists-returns-in_ok-stages-in-Rows t c =
     (IfOk-weaker c.any_row.result _ _
     (λ b h.
     h
-      ∙ ap
-        (λ js. has_items
-           (kept_items (kept C w)
-              (flat_map (joined (joins_of (map join_view js)) w)
-                 (map (with_alias n c.alias_of-alias.result.now) (source_view c.source_of-source.result)))))
-        c.as_slice-list.ensures.value
+    ∙ ap
+    (λ js. has_items
+    (kept_items (kept C w)
+    (flat_map (joined (joins_of (map join_view js)) w)
+    (map (with_alias n c.alias_of-alias.result.now) (source_view c.source_of-source.result)))))
+    c.as_slice-list.ensures.value
     ∙ exists_is D O F J C K w n (map made_view c.in_ok-made-in-Rows.made.items) (source_view c.source_of-source.result) c.alias_of-alias.result.now c.in_ok-made-in-Rows.ensures
     (c.source_of-source.ensures ∙ ap (λ given. rows_given F w (map made_view given)) c.as_slice-given.ensures.value) c.alias_of-alias.ensures)
     c.any_row.ensures)
@@ -639,7 +639,7 @@ values::keys-loop-key-preserved t c =
     let done = map cell_view c.loop-key.keys.items in
     map_more (λ o. value o.value [] n) order_view items i c.key-item.result done (map cell_view c.push.new.self.items) within c.key-item.is c.loop-key.invariant
     (ap (map cell_view) c.in_ok-push.ensures.items ∙ map-append cell_view c.loop-key.keys.items _
-       ∙ ap (λ v. done ++ v ∷ []) (c.in_ok-value.ensures ∙ ap (λ e. value e [] n) (sym (view_key c.key-item.result))))
+    ∙ ap (λ v. done ++ v ∷ []) (c.in_ok-value.ensures ∙ ap (λ e. value e [] n) (sym (view_key c.key-item.result))))
 
 pub values::values-loop-expr-preserved : goal.values::values-loop-expr-preserved
 values::values-loop-expr-preserved t c =
@@ -671,7 +671,7 @@ aggregates::each_value-loop-row-preserved t c =
     let done = map cell_view c.loop-row.cells.items in
     scope_more (value e []) (with_alias n a) made_view c.args.rows.now i c.row-item.result done (map cell_view c.push.new.self.items) within c.row-item.is c.loop-row.invariant
     (ap (map cell_view) c.in_ok-push.ensures.items ∙ map-append cell_view c.loop-row.cells.items _
-       ∙ ap (λ v. done ++ v ∷ []) (c.in_ok-value.ensures ∙ ap (λ cs. value e [] (with_alias n a (map named_view cs))) c.deref.ensures.value))
+    ∙ ap (λ v. done ++ v ∷ []) (c.in_ok-value.ensures ∙ ap (λ cs. value e [] (with_alias n a (map named_view cs))) c.deref.ensures.value))
 
 pub aggregates::each_json-loop-row-preserved : goal.aggregates::each_json-loop-row-preserved
 aggregates::each_json-loop-row-preserved t c =
@@ -712,7 +712,7 @@ pages::keyed-loop-place-preserved t c =
     let place = c.in-Some.place in
     let done = map with_cells c.loop-place.kept.items in
     value_more (taken_at (names_at c.args.source a js w n) (map order_view K) (map expr_view D)) done (map with_cells c.push.new.self.items)
-      place _ (into_iter_items c.next.new.self) _ c.in-Some.ensures.steps.0
+    place _ (into_iter_items c.next.new.self) _ c.in-Some.ensures.steps.0
     (ap (map with_cells) c.in_ok-push.ensures.items ∙ map-append with_cells c.loop-place.kept.items _
     ∙ ap (λ v. done ++ v ∷ []) (c.in_ok-with_keys.ensures ∙ ap (λ r. keyed_in K D (beside js w (with_alias n a r) (joined_view place.joined)) place) c.row_at.ensures))
     c.loop-place.invariant
@@ -739,6 +739,6 @@ truths::all_hold-loop-pred-preserved t c =
     let n = names_of c.args.scope.now c.args.world.now in
     let p = c.pred-item.result in
     holds_next (is_true (truth_at (pred_view p.now) w n)) (all_kept (lent_views (drop (i + 1) items)) w n)
-      (all_kept (lent_views (drop i items)) w n) _ (ap (λ ps. all_kept (lent_views ps) w n) (next_item items i p within c.pred-item.is))
-      c.loop-pred.invariant
+    (all_kept (lent_views (drop i items)) w n) _ (ap (λ ps. all_kept (lent_views ps) w n) (next_item items i p within c.pred-item.is))
+    c.loop-pred.invariant
     (sym (ap is_true c.in_ok-truth.ensures) ∙ sym c.is_yes.ensures ∙ c.if-not-is_yes.false)

@@ -24,8 +24,8 @@ use Rattle.hq_sql_walk.proofs.+eval.Given as goal
 abbrev pub invariant-values::members-loop-pair : goal.invariant-values::members-loop-pair
 invariant-values::members-loop-pair l =
     map member_view l.members.items
-      ≡ map (member_at (group_of l.group (names_of l.scope l.world)) (names_of l.scope l.world))
-        (map pair_view (take l.pair-index l.pair-items))
+    ≡ map (member_at (group_of l.group (names_of l.scope l.world)) (names_of l.scope l.world))
+    (map pair_view (take l.pair-index l.pair-items))
 
 abbrev pub invariant-values::keys-loop-key : goal.invariant-values::keys-loop-key
 invariant-values::keys-loop-key l = map cell_view l.keys.items ≡ key_values (map order_view (take l.key-index l.key-items)) (names_of l.scope l.world)
@@ -36,13 +36,13 @@ invariant-values::values-loop-expr l = map cell_view l.values.items ≡ expr_val
 abbrev pub invariant-aggregates::each_value-loop-row : goal.invariant-aggregates::each_value-loop-row
 invariant-aggregates::each_value-loop-row l =
     map cell_view l.cells.items
-      ≡ map (value (expr_view l.expr) []) (map (with_alias (names_of l.scope l.world) l.alias) (map made_view (take l.row-index l.rows)))
+    ≡ map (value (expr_view l.expr) []) (map (with_alias (names_of l.scope l.world) l.alias) (map made_view (take l.row-index l.rows)))
 
 abbrev pub invariant-aggregates::each_json-loop-row : goal.invariant-aggregates::each_json-loop-row
 invariant-aggregates::each_json-loop-row l =
     map with_json l.kept.items
-      ≡ map (json_at (expr_view l.expr) (map order_view l.order.items))
-        (map (with_alias (names_of l.scope l.world) l.alias) (map made_view (take l.row-index l.rows)))
+    ≡ map (json_at (expr_view l.expr) (map order_view l.order.items))
+    (map (with_alias (names_of l.scope l.world) l.alias) (map made_view (take l.row-index l.rows)))
 
 abbrev pub invariant-truths::all_true-loop-pred : goal.invariant-truths::all_true-loop-pred
 invariant-truths::all_true-loop-pred l =
@@ -52,22 +52,22 @@ invariant-truths::all_true-loop-pred l =
 abbrev pub invariant-truths::any_true-loop-pred : goal.invariant-truths::any_true-loop-pred
 invariant-truths::any_true-loop-pred l =
     or3 l.any (any_true (preds_of (map pred_view (drop l.pred-index l.pred-items))) (world_of l.world) (names_of l.scope l.world))
-      ≡ any_true (preds_of (map pred_view l.pred-items)) (world_of l.world) (names_of l.scope l.world)
+    ≡ any_true (preds_of (map pred_view l.pred-items)) (world_of l.world) (names_of l.scope l.world)
 
 abbrev pub invariant-truths::all_hold-loop-pred : goal.invariant-truths::all_hold-loop-pred
 invariant-truths::all_hold-loop-pred l =
     all_kept (lent_views (drop l.pred-index l.preds)) (world_of l.world) (names_of l.scope l.world)
-      ≡ all_kept (lent_views l.preds) (world_of l.world) (names_of l.scope l.world)
+    ≡ all_kept (lent_views l.preds) (world_of l.world) (names_of l.scope l.world)
 
 abbrev pub invariant-joins::spread-loop-row : goal.invariant-joins::spread-loop-row
 invariant-joins::spread-loop-row l =
     map (beside (join_in (join_view l.join) (joins_of (map join_view l.rest))) (world_of l.world) (names_of l.scope l.world)) (map joined_view l.all.items)
     ++ filter (kept (filter_view l.filter) (world_of l.world))
-      (flat_map (joined (joins_of (map join_view l.rest)) (world_of l.world))
-         (map (with_alias (names_of l.scope l.world) (join_view l.join).alias) (map made_view (into_iter_items l.row-iterator))))
+    (flat_map (joined (joins_of (map join_view l.rest)) (world_of l.world))
+    (map (with_alias (names_of l.scope l.world) (join_view l.join).alias) (map made_view (into_iter_items l.row-iterator))))
     ≡ filter (kept (filter_view l.filter) (world_of l.world))
-      (flat_map (joined (joins_of (map join_view l.rest)) (world_of l.world))
-         (map (with_alias (names_of l.scope l.world) (join_view l.join).alias) (map made_view l.fn.made.items)))
+    (flat_map (joined (joins_of (map join_view l.rest)) (world_of l.world))
+    (map (with_alias (names_of l.scope l.world) (join_view l.join).alias) (map made_view l.fn.made.items)))
 
 abbrev pub invariant-joins::outputs-loop-out : goal.invariant-joins::outputs-loop-out
 invariant-joins::outputs-loop-out l = map named_view l.cells.items ≡ map (output_at (names_of l.scope l.world)) (map out_view (take l.out-index l.out-items))
@@ -85,9 +85,9 @@ invariant-pages::page_top-loop-next l =
     record {
       within : l.next ≤ length (positions_of l.positions);
       top : map (scope_at l.source l.alias l.joins l.world l.scope) l.top.items
-        ≡ take l.bound
+          ≡ take l.bound
           (sort (order_cmp (map order_view l.parts.order.now.items))
-             (kept_from (take l.next (rows_at l.source l.positions)) l.alias l.joins l.parts.filter.now l.world l.scope));
+          (kept_from (take l.next (rows_at l.source l.positions)) l.alias l.joins l.parts.filter.now l.world l.scope));
     }
 
 abbrev pub decreases-pages::page_top-loop-next : goal.decreases-pages::page_top-loop-next
@@ -101,13 +101,13 @@ abbrev pub invariant-pages::keyed-loop-place : goal.invariant-pages::keyed-loop-
 invariant-pages::keyed-loop-place l =
     map with_cells l.kept.items
     ++ map
-      (taken_at (names_at l.source l.alias (joins_of (map join_view l.joins)) (world_of l.world) (names_of l.scope l.world))
-         (map order_view l.order.items) (map expr_view l.distinct.items))
-      (into_iter_items l.place-iterator)
+    (taken_at (names_at l.source l.alias (joins_of (map join_view l.joins)) (world_of l.world) (names_of l.scope l.world))
+    (map order_view l.order.items) (map expr_view l.distinct.items))
+    (into_iter_items l.place-iterator)
     ≡ map
-      (taken_at (names_at l.source l.alias (joins_of (map join_view l.joins)) (world_of l.world) (names_of l.scope l.world))
-         (map order_view l.order.items) (map expr_view l.distinct.items))
-      l.fn.places.items
+    (taken_at (names_at l.source l.alias (joins_of (map join_view l.joins)) (world_of l.world) (names_of l.scope l.world))
+    (map order_view l.order.items) (map expr_view l.distinct.items))
+    l.fn.places.items
 
 abbrev pub invariant-clauses::all_outputs-loop-place : goal.invariant-clauses::all_outputs-loop-place
 invariant-clauses::all_outputs-loop-place l =
@@ -212,26 +212,26 @@ decreases-clauses::made_of l = from_weight l.from.now + scope_weight l.scope.now
 abbrev pub decreases-clauses::rows_over : goal.decreases-clauses::rows_over
 decreases-clauses::rows_over l =
     9
-      +
-        (total (map out_weight l.parts.outs.now.items)
-           +
-             (total (map join_weight l.joins.now)
-                +
-                  (filter_weight l.parts.filter.now
-                     +
-                       (total (map order_weight l.parts.order.now.items)
-                          + (total (map expr_weight l.parts.distinct.now.items) + scope_weight l.scope.now)))))
+    +
+    (total (map out_weight l.parts.outs.now.items)
+    +
+    (total (map join_weight l.joins.now)
+    +
+    (filter_weight l.parts.filter.now
+    +
+    (total (map order_weight l.parts.order.now.items)
+    + (total (map expr_weight l.parts.distinct.now.items) + scope_weight l.scope.now)))))
 
 abbrev pub decreases-pages::page : goal.decreases-pages::page
 decreases-pages::page l =
     8
-      +
-        (total (map join_weight l.joins.now)
-           +
-             (filter_weight l.parts.filter.now
-                +
-                  (total (map order_weight l.parts.order.now.items)
-                     + (total (map expr_weight l.parts.distinct.now.items) + scope_weight l.scope.now))))
+    +
+    (total (map join_weight l.joins.now)
+    +
+    (filter_weight l.parts.filter.now
+    +
+    (total (map order_weight l.parts.order.now.items)
+    + (total (map expr_weight l.parts.distinct.now.items) + scope_weight l.scope.now))))
 
 abbrev pub decreases-pages::page_front : goal.decreases-pages::page_front
 decreases-pages::page_front l = 6 + (total (map join_weight l.joins.now) + (filter_weight l.filter.now + scope_weight l.scope.now))
@@ -239,24 +239,24 @@ decreases-pages::page_front l = 6 + (total (map join_weight l.joins.now) + (filt
 abbrev pub decreases-pages::page_top : goal.decreases-pages::page_top
 decreases-pages::page_top l =
     7
-      +
-        (total (map join_weight l.joins.now)
-           +
-             (filter_weight l.parts.filter.now
-                +
-                  (total (map order_weight l.parts.order.now.items)
-                     + (total (map expr_weight l.parts.distinct.now.items) + scope_weight l.scope.now))))
+    +
+    (total (map join_weight l.joins.now)
+    +
+    (filter_weight l.parts.filter.now
+    +
+    (total (map order_weight l.parts.order.now.items)
+    + (total (map expr_weight l.parts.distinct.now.items) + scope_weight l.scope.now))))
 
 abbrev pub decreases-pages::page_sorted : goal.decreases-pages::page_sorted
 decreases-pages::page_sorted l =
     7
-      +
-        (total (map join_weight l.joins.now)
-           +
-             (filter_weight l.parts.filter.now
-                +
-                  (total (map order_weight l.parts.order.now.items)
-                     + (total (map expr_weight l.parts.distinct.now.items) + scope_weight l.scope.now))))
+    +
+    (total (map join_weight l.joins.now)
+    +
+    (filter_weight l.parts.filter.now
+    +
+    (total (map order_weight l.parts.order.now.items)
+    + (total (map expr_weight l.parts.distinct.now.items) + scope_weight l.scope.now))))
 
 abbrev pub decreases-scans::scan_from : goal.decreases-scans::scan_from
 decreases-scans::scan_from l = 5 + (total (map join_weight l.joins.now) + (filter_weight l.filter.now + scope_weight l.scope.now))

@@ -60,9 +60,9 @@ pub fn read_row(
     rows: &mut Vec<Val>,
 ) -> Result<(), LoadRefusal>
     ensures due { Gives (λ _. rows.new.items) refusal.Memory
-          (mapped (λ row. rows.old.items ++ row)
-             (record_due line layout.now.table.now (names_of layout.now) (columns_of layout.now) (fields_of fields.now)))
-          result }
+        (mapped (λ row. rows.old.items ++ row)
+        (record_due line layout.now.table.now (names_of layout.now) (columns_of layout.now) (fields_of fields.now)))
+        result }
     ensures kept { IfErr result (λ e. e ≢ refusal.Memory → rows.new ≡ rows.old) }
 {
     if fields.len() != layout.columns.len() {

@@ -14,7 +14,7 @@ pub returns-in_err-sorts : goal.returns-in_err-sorts
 returns-in_err-sorts c =
     let e : ArgRefusal = c.in_err-sorts.field-0.0 in
     passed_up (λ a. arguments_view a.value) Memory e _ _ c.from_residual-in_err-sorts.result
-      (λ given. rw (c.in_ok-filter.ensures, given) refl) c.in_err-sorts.ensures c.from_residual-in_err-sorts.ensures.1
+    (λ given. rw (c.in_ok-filter.ensures, given) refl) c.in_err-sorts.ensures c.from_residual-in_err-sorts.ensures.1
 
 pub returns-in_err-limit : goal.returns-in_err-limit
 returns-in_err-limit c =

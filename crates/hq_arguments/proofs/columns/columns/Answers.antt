@@ -15,7 +15,7 @@ loop-json-preserved c =
     let x = context_view c.args.context.now in
     read_more (λ (js : List Json). each (column_due x c.args.p) (map json_view js)) (λ (j : Json). column_due x c.args.p (json_view j)) (λ j js. refl)
     c.args.items.now c.loop-json.json-index c.json-item.result _ _ c.in_ok-column.field-0 _ c.loop-json.invariant c.loop-json-test.true
-      c.json-item.is (sym c.in_ok-column.ensures) c.in_ok-push.ensures.ok
+    c.json-item.is (sym c.in_ok-column.ensures) c.in_ok-push.ensures.ok
 
 pub returns-in_err-column : goal.returns-in_err-column
 returns-in_err-column c =

@@ -17,8 +17,8 @@ loop-member-preserved c =
     let x = context_view c.args.context.now in
     read_more (λ (ms : List Member). each (named_due x c.args.p c.args.col c.args.ty) (map member_view ms)) (λ (m : Member). named_due x c.args.p c.args.col c.args.ty (member_view m)) (λ m ms. refl)
     c.args.members.now c.loop-member.member-index c.member-item.result _ _ (bexp_view c.in_ok-condition.condition) _ c.loop-member.invariant
-      c.loop-member-test.true c.member-item.is c.in_ok-condition.ensures
-      (ap (map bexp_view) c.in_ok-push.ensures.items ∙ map-append bexp_view _ _)
+    c.loop-member-test.true c.member-item.is c.in_ok-condition.ensures
+    (ap (map bexp_view) c.in_ok-push.ensures.items ∙ map-append bexp_view _ _)
 
 pub returns-in_err-condition : goal.returns-in_err-condition
 returns-in_err-condition c =
@@ -33,4 +33,4 @@ pub returns : goal.returns
 returns c =
     let due = named_due (context_view c.args.context.now) c.args.p c.args.col c.args.ty in
     read_all (λ (ms : List Member). each due (map member_view ms)) c.args.members.now c.loop-member.member-index
-      (map bexp_view c.loop-member.conditions.items) _ c.loop-member.invariant c.loop-member-test.false refl
+    (map bexp_view c.loop-member.conditions.items) _ c.loop-member.invariant c.loop-member-test.false refl

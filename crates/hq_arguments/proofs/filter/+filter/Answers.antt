@@ -19,7 +19,7 @@ element_filters-loop-json-preserved t c =
     let x = context_view c.args.context.now in
     read_more (λ (js : List Json). elements_due (elements_of (map json_view js)) x c.args.p c.args.t) (λ (j : Json). filter_due (json_view j) x c.args.p c.args.t) (λ j js. refl)
     c.deref-json-items.result.now c.loop-json.json-index c.json-item.result _ _ (bexp_view c.in_ok-bexp.bexp) _ c.loop-json.invariant
-      c.loop-json-test.true c.json-item.is c.in_ok-bexp.ensures (ap (map bexp_view) c.in_ok-push.ensures.items ∙ map-append bexp_view _ _)
+    c.loop-json-test.true c.json-item.is c.in_ok-bexp.ensures (ap (map bexp_view) c.in_ok-push.ensures.items ∙ map-append bexp_view _ _)
 
 pub element_filters-returns-in_err-bexp : goal.element_filters-returns-in_err-bexp
 element_filters-returns-in_err-bexp t c =
@@ -34,16 +34,16 @@ pub element_filters-returns : goal.element_filters-returns
 element_filters-returns t c =
     let x = context_view c.args.context.now in
     read_all (λ (js : List Json). elements_due (elements_of (map json_view js)) x c.args.p c.args.t) c.deref-json-items.result.now
-      c.loop-json.json-index (map bexp_view c.loop-json.bexps.items) _ c.loop-json.invariant c.loop-json-test.false refl
+    c.loop-json.json-index (map bexp_view c.loop-json.bexps.items) _ c.loop-json.invariant c.loop-json-test.false refl
 
 pub member_filters-loop-member-preserved : goal.member_filters-loop-member-preserved
 member_filters-loop-member-preserved t c =
     let x = context_view c.args.context.now in
     read_more (λ (ms : List Member). members_due (members_of (map member_view ms)) x c.args.p c.args.t)
-      (λ (m : Member). named_due x c.args.p c.args.t (member_view m).0 (member_view m).1) (λ m ms. refl)
+    (λ (m : Member). named_due x c.args.p c.args.t (member_view m).0 (member_view m).1) (λ m ms. refl)
     c.deref-member-items.result.now c.loop-member.member-index c.member-item.result _ _ (bexp_view c.in_ok-bexp.bexp) _
-      c.loop-member.invariant c.loop-member-test.true c.member-item.is c.in_ok-bexp.ensures
-      (ap (map bexp_view) c.in_ok-push.ensures.items ∙ map-append bexp_view _ _)
+    c.loop-member.invariant c.loop-member-test.true c.member-item.is c.in_ok-bexp.ensures
+    (ap (map bexp_view) c.in_ok-push.ensures.items ∙ map-append bexp_view _ _)
 
 pub member_filters-returns-in_err-bexp : goal.member_filters-returns-in_err-bexp
 member_filters-returns-in_err-bexp t c =
@@ -51,7 +51,7 @@ member_filters-returns-in_err-bexp t c =
     let e : ArgRefusal = c.in_err-bexp.field-0.0 in
     passed_up (λ v. map bexp_view v.items) Memory e _ _ c.from_residual.result
     (read_refused (λ (ms : List Member). members_due (members_of (map member_view ms)) x c.args.p c.args.t)
-      (λ (m : Member). named_due x c.args.p c.args.t (member_view m).0 (member_view m).1) (λ m ms. refl)
+    (λ (m : Member). named_due x c.args.p c.args.t (member_view m).0 (member_view m).1) (λ m ms. refl)
     c.deref-member-items.result.now c.loop-member.member-index c.member-item.result (map bexp_view c.loop-member.bexps.items) e _ c.loop-member.invariant c.loop-member-test.true c.member-item.is)
     c.in_err-bexp.ensures c.from_residual.ensures.1
 
@@ -59,7 +59,7 @@ pub member_filters-returns : goal.member_filters-returns
 member_filters-returns t c =
     let x = context_view c.args.context.now in
     read_all (λ (ms : List Member). members_due (members_of (map member_view ms)) x c.args.p c.args.t) c.deref-member-items.result.now
-      c.loop-member.member-index (map bexp_view c.loop-member.bexps.items) _ c.loop-member.invariant c.loop-member-test.false refl
+    c.loop-member.member-index (map bexp_view c.loop-member.bexps.items) _ c.loop-member.invariant c.loop-member-test.false refl
 
 pub member_filter-returns-in-Some : goal.member_filter-returns-in-Some
 member_filter-returns-in-Some t c =
@@ -101,5 +101,5 @@ filter_by-returns-in_err-inner-in-Relationship t c =
     let e : ArgRefusal = c.in_err-inner-in-Relationship.field-0.0 in
     passed_up bexp_view Memory e _ _ c.from_residual-in_err-inner-in-Relationship.result
     (λ given. ap (by_origin (λ q u. filter_due j x q u) (λ q. filters_due j x q c.args.t) j x c.args.t c.args.p) c.in-Relationship.is
-       ∙ ap (mapped (through c.in-Relationship.rel)) (ap (filter_due j x c.args.p) (sym c.remote-remote.ensures) ∙ given))
+    ∙ ap (mapped (through c.in-Relationship.rel)) (ap (filter_due j x c.args.p) (sym c.remote-remote.ensures) ∙ given))
     c.in_err-inner-in-Relationship.ensures c.from_residual-in_err-inner-in-Relationship.ensures.1

@@ -15,7 +15,7 @@ loop-column-preserved c =
     let due = part_due (context_view c.args.context.now) (map arg_view c.args.args.now) (map argument_view c.args.arguments.now) c.args.t in
     read_more (λ (cs : List ℕ). each due cs) due (λ d ds. refl)
     c.args.columns.now c.loop-column.column-index c.column-item.result _ _ c.in_ok-key_part.field-0 _ c.loop-column.invariant
-      c.loop-column-test.true c.column-item.is c.in_ok-key_part.ensures c.in_ok-push.ensures.ok
+    c.loop-column-test.true c.column-item.is c.in_ok-key_part.ensures c.in_ok-push.ensures.ok
 
 pub returns-in_err-key_part : goal.returns-in_err-key_part
 returns-in_err-key_part c =

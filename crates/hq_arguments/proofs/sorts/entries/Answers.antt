@@ -15,7 +15,7 @@ loop-json-preserved c =
     let x = context_view c.args.context.now in
     join_more (λ (js : List Json). entries_due x c.args.p c.args.t (map json_view js)) (λ (j : Json). entry_due (json_view j) x [] c.args.p c.args.t) (λ j js. refl)
     c.args.items.now c.loop-json.json-index c.json-item.result (sorts_view c.loop-json.sorts) (sorts_view c.in_ok-next.next) _
-      c.loop-json.invariant c.loop-json-test.true c.json-item.is c.in_ok-next.ensures
+    c.loop-json.invariant c.loop-json-test.true c.json-item.is c.in_ok-next.ensures
 
 pub returns-in_err-next : goal.returns-in_err-next
 returns-in_err-next c =
@@ -30,4 +30,4 @@ pub returns : goal.returns
 returns c =
     let x = context_view c.args.context.now in
     read_all (λ (js : List Json). entries_due x c.args.p c.args.t (map json_view js)) c.args.items.now c.loop-json.json-index
-      (sorts_view c.loop-json.sorts) _ c.loop-json.invariant c.loop-json-test.false refl
+    (sorts_view c.loop-json.sorts) _ c.loop-json.invariant c.loop-json-test.false refl

@@ -19,9 +19,9 @@ ask_fields-returns t c =
     let d : Context = context_view c.args.context.now in
     c.loop-field.invariant
     ∙ at_drop_all
-      (λ (fs : List CollectedField). mapped (front field (map keyed_field_view c.loop-field.asks.items))
-         (fields_due d c.args.place c.args.t (trees_of (map collected_view fs))))
-      c.deref-field-items.result.now c.loop-field.field-index c.loop-field-test.false
+    (λ (fs : List CollectedField). mapped (front field (map keyed_field_view c.loop-field.asks.items))
+    (fields_due d c.args.place c.args.t (trees_of (map collected_view fs))))
+    c.deref-field-items.result.now c.loop-field.field-index c.loop-field-test.false
     ∙ ap Ok (fields_end (map keyed_field_view c.loop-field.asks.items))
 
 pub ask_fields-returns-in_err-ask : goal.ask_fields-returns-in_err-ask
@@ -38,19 +38,19 @@ ask_fields-loop-field-preserved t c =
     let d : Context = context_view c.args.context.now in
     walk_more field (field_due d c.args.place c.args.t) (λ fs. fields_due d c.args.place c.args.t (trees_of (map collected_view fs))) (λ f fs. refl)
     c.deref-field-items.result.now c.loop-field.field-index c.field-item.result (map keyed_field_view c.loop-field.asks.items) _
-      (field_view c.in_ok-ask.ask) _ c.loop-field.invariant c.loop-field-test.true c.field-item.is c.in_ok-ask.ensures
+    (field_view c.in_ok-ask.ask) _ c.loop-field.invariant c.loop-field-test.true c.field-item.is c.in_ok-ask.ensures
     (ap (map keyed_field_view) c.in_ok-push.ensures.items ∙ map-append keyed_field_view _ _
-       ∙ ap (λ p. map keyed_field_view c.loop-field.asks.items ++ p ∷ [])
-         (c.keyed.ensures ∙ ap (λ k. (k, field_view c.in_ok-ask.ask)) (c.in_ok-key.ensures ∙ c.key.ensures)))
+    ∙ ap (λ p. map keyed_field_view c.loop-field.asks.items ++ p ∷ [])
+    (c.keyed.ensures ∙ ap (λ k. (k, field_view c.in_ok-ask.ask)) (c.in_ok-key.ensures ∙ c.key.ensures)))
 
 pub ask_parts-returns : goal.ask_parts-returns
 ask_parts-returns t c =
     let d : Context = context_view c.args.context.now in
     c.loop-field.invariant
     ∙ at_drop_all
-      (λ (fs : List CollectedField). mapped (front part (map keyed_part_view c.loop-field.parts.items))
-         (parts_due d c.args.place c.args.t (trees_of (map collected_view fs))))
-      c.deref-field-items.result.now c.loop-field.field-index c.loop-field-test.false
+    (λ (fs : List CollectedField). mapped (front part (map keyed_part_view c.loop-field.parts.items))
+    (parts_due d c.args.place c.args.t (trees_of (map collected_view fs))))
+    c.deref-field-items.result.now c.loop-field.field-index c.loop-field-test.false
     ∙ ap Ok (parts_end (map keyed_part_view c.loop-field.parts.items))
 
 pub ask_parts-returns-in_err-part : goal.ask_parts-returns-in_err-part
@@ -67,7 +67,7 @@ ask_parts-loop-field-preserved t c =
     let d : Context = context_view c.args.context.now in
     walk_more part (part_due d c.args.place c.args.t) (λ fs. parts_due d c.args.place c.args.t (trees_of (map collected_view fs))) (λ f fs. refl)
     c.deref-field-items.result.now c.loop-field.field-index c.field-item.result (map keyed_part_view c.loop-field.parts.items) _
-      (part_view c.in_ok-part.part) _ c.loop-field.invariant c.loop-field-test.true c.field-item.is c.in_ok-part.ensures
+    (part_view c.in_ok-part.part) _ c.loop-field.invariant c.loop-field-test.true c.field-item.is c.in_ok-part.ensures
     (ap (map keyed_part_view) c.in_ok-push.ensures.items ∙ map-append keyed_part_view _ _
-       ∙ ap (λ p. map keyed_part_view c.loop-field.parts.items ++ p ∷ [])
-         (c.keyed_part.ensures ∙ ap (λ k. (k, part_view c.in_ok-part.part)) (c.in_ok-key.ensures ∙ c.key.ensures)))
+    ∙ ap (λ p. map keyed_part_view c.loop-field.parts.items ++ p ∷ [])
+    (c.keyed_part.ensures ∙ ap (λ k. (k, part_view c.in_ok-part.part)) (c.in_ok-key.ensures ∙ c.key.ensures)))

@@ -37,7 +37,7 @@ touch_field-returns-in_ok-touch_list-in-Aggregate t c =
     ∙ sym (joined_append us (list_tables a s u) (part_tables ps s u))
     ∙ ap (λ v. joined us (list_tables a s v ++ part_tables ps s v)) c.origin_table-table-in-Aggregate.ensures
     ∙ sym
-      (ap (λ (f : FieldTree). joined us (field_tables f s c.args.t)) (ap field_view c.in-Aggregate.is ∙ aggregate_seen c.in-Aggregate.table c.in-Aggregate.rel c.in-Aggregate.args c.in-Aggregate.parts)))
+    (ap (λ (f : FieldTree). joined us (field_tables f s c.args.t)) (ap field_view c.in-Aggregate.is ∙ aggregate_seen c.in-Aggregate.table c.in-Aggregate.rel c.in-Aggregate.args c.in-Aggregate.parts)))
     c.touch_parts.ensures
 
 pub touch_fields-loop-field-preserved : goal.touch_fields-loop-field-preserved

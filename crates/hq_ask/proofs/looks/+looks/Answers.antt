@@ -19,9 +19,9 @@ ask_looks-returns t c =
     let d : Context = context_view c.args.context.now in
     c.loop-field.invariant
     ∙ at_drop_all
-      (λ (fs : List CollectedField). mapped (front looks (map keyed_introspection_view c.loop-field.looks.items))
-         (looks_due d c.args.place c.args.t (trees_of (map collected_view fs))))
-      c.deref-field-items.result.now c.loop-field.field-index c.loop-field-test.false
+    (λ (fs : List CollectedField). mapped (front looks (map keyed_introspection_view c.loop-field.looks.items))
+    (looks_due d c.args.place c.args.t (trees_of (map collected_view fs))))
+    c.deref-field-items.result.now c.loop-field.field-index c.loop-field-test.false
     ∙ ap Ok (looks_end (map keyed_introspection_view c.loop-field.looks.items))
 
 pub ask_looks-returns-in_err-look : goal.ask_looks-returns-in_err-look
@@ -31,7 +31,7 @@ ask_looks-returns-in_err-look t c =
     passed_up (λ v. looks_of (map keyed_introspection_view v.items)) Memory e _ _ c.from_residual-in_err-look.result
     (walk_refused looks (look_due d c.args.place c.args.t) (λ fs. looks_due d c.args.place c.args.t (trees_of (map collected_view fs))) (λ f fs. refl)
     c.deref-field-items.result.now c.loop-field.field-index c.field-item.result (map keyed_introspection_view c.loop-field.looks.items) e _
-      c.loop-field.invariant c.loop-field-test.true c.field-item.is)
+    c.loop-field.invariant c.loop-field-test.true c.field-item.is)
     c.in_err-look.ensures c.from_residual-in_err-look.ensures.1
 
 pub ask_looks-loop-field-preserved : goal.ask_looks-loop-field-preserved
@@ -39,7 +39,7 @@ ask_looks-loop-field-preserved t c =
     let d : Context = context_view c.args.context.now in
     walk_more looks (look_due d c.args.place c.args.t) (λ fs. looks_due d c.args.place c.args.t (trees_of (map collected_view fs))) (λ f fs. refl)
     c.deref-field-items.result.now c.loop-field.field-index c.field-item.result (map keyed_introspection_view c.loop-field.looks.items) _
-      (introspection_view c.in_ok-look.look) _ c.loop-field.invariant c.loop-field-test.true c.field-item.is c.in_ok-look.ensures
+    (introspection_view c.in_ok-look.look) _ c.loop-field.invariant c.loop-field-test.true c.field-item.is c.in_ok-look.ensures
     (ap (map keyed_introspection_view) c.in_ok-push.ensures.items ∙ map-append keyed_introspection_view _ _
-       ∙ ap (λ p. map keyed_introspection_view c.loop-field.looks.items ++ p ∷ [])
-         (c.keyed.ensures ∙ ap (λ k. (k, introspection_view c.in_ok-look.look)) (c.in_ok-key.ensures ∙ c.key.ensures)))
+    ∙ ap (λ p. map keyed_introspection_view c.loop-field.looks.items ++ p ∷ [])
+    (c.keyed.ensures ∙ ap (λ k. (k, introspection_view c.in_ok-look.look)) (c.in_ok-key.ensures ∙ c.key.ensures)))

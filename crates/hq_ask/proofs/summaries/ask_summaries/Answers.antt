@@ -18,9 +18,9 @@ returns c =
     let d : Context = context_view c.args.context.now in
     c.loop-field.invariant
     ∙ at_drop_all
-      (λ (fs : List CollectedField). mapped (front with_summary (map summary_pair c.loop-field.summaries))
-         (summaries_due d c.args.place c.args.t (trees_of (map collected_view fs))))
-      c.deref-field-items.result.now c.loop-field.field-index c.loop-field-test.false
+    (λ (fs : List CollectedField). mapped (front with_summary (map summary_pair c.loop-field.summaries))
+    (summaries_due d c.args.place c.args.t (trees_of (map collected_view fs))))
+    c.deref-field-items.result.now c.loop-field.field-index c.loop-field-test.false
     ∙ ap Ok (summaries_end c.loop-field.summaries)
 
 pub returns-in_err-one : goal.returns-in_err-one
@@ -37,6 +37,6 @@ loop-field-preserved c =
     let d : Context = context_view c.args.context.now in
     walk_more with_summary (one_summary_due d c.args.place c.args.t) (λ fs. summaries_due d c.args.place c.args.t (trees_of (map collected_view fs))) (λ f fs. refl)
     c.deref-field-items.result.now c.loop-field.field-index c.field-item.result (map summary_pair c.loop-field.summaries) _
-      (c.in_ok-one.one) _ c.loop-field.invariant c.loop-field-test.true c.field-item.is c.in_ok-one.ensures
+    (c.in_ok-one.one) _ c.loop-field.invariant c.loop-field-test.true c.field-item.is c.in_ok-one.ensures
     (ap (map summary_pair) c.in_ok-push.ensures.ok ∙ map-append summary_pair _ _
-       ∙ ap (λ p. map summary_pair c.loop-field.summaries ++ p ∷ []) (ap (λ k. (k, c.in_ok-one.one)) (c.in_ok-key.ensures ∙ c.key.ensures)))
+    ∙ ap (λ p. map summary_pair c.loop-field.summaries ++ p ∷ []) (ap (λ k. (k, c.in_ok-one.one)) (c.in_ok-key.ensures ∙ c.key.ensures)))

@@ -17,7 +17,7 @@ members-loop-name-preserved t c =
       names = values_more c.loop-name.list.items c.push.new.self.items _ c.in_ok-name.name _ c.in_ok-push.ensures.items (member_view-roll _ _) c.loop-name.invariant.names c.in_ok-value.ensures.names;
       due =
           one_more_member (members_in (members_view c.args.entries.now.entries)) c.loop-name.list.items c.push.new.self.items _
-            (string_bytes c.in-Some.name.now) c.in_ok-name.name (view c.in-Some.value.now) _ items
+          (string_bytes c.in-Some.name.now) c.in_ok-name.name (view c.in-Some.value.now) _ items
           (c.loop-name.invariant.due ∙ ap (λ left. mapped (λ rest. map member_view c.loop-name.list.items ++ rest) (members_in (members_view left))) c.in-Some.ensures.steps)
           (ap clean (sym c.as_str.ensures.value) ∙ c.in_ok-name.ensures)
           c.in_ok-value.ensures.due
@@ -35,5 +35,5 @@ elements-loop-item-preserved t c =
 pub members-returns-clause-names : goal.members-returns-clause-names
 members-returns-clause-names t c =
     and_from _ _
-      (names_at c.args.entries.now.entries (map member_view c.loop-name.list.items) c.iter-name-items.ensures.ordered (search rules))
-      c.loop-name.invariant.names
+    (names_at c.args.entries.now.entries (map member_view c.loop-name.list.items) c.iter-name-items.ensures.ordered (search rules))
+    c.loop-name.invariant.names

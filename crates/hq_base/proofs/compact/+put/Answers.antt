@@ -14,5 +14,5 @@ put_members-loop-at-preserved t c =
     let inside = rw c.deref-member-items.ensures.value at c.loop-at-test.true in
     let is = rw c.deref-member-items.ensures.value at c.member-item.is in
     one_more_member c.args.members.now.items c.loop-at.at c.member-item.result c.member-item.result.name _ c.args.out.now c.loop-at.out
-      c.put_comma.new.out c.put_text.new.out c.push.new.self c.put.new.out inside is
+    c.put_comma.new.out c.put_text.new.out c.push.new.self c.put.new.out inside is
     (member_view-fields _) c.loop-at.invariant c.in_ok-put_comma.ensures c.in_ok-put_text.ensures c.in_ok-push.ensures.ok c.in_ok-put.ensures

@@ -26,7 +26,9 @@ loop-rest-smaller c =
     omega (arith, less)
 
 pub loop-rest-preserved : goal.loop-rest-preserved
-loop-rest-preserved c =
-    ((search rules), c.loop-rest.invariant.1
-       ∙ up_to_any_finds c.args.fold c.loop-rest.steps.now c.in-UpToAny.later.now (chars c.loop-rest.text.now) (chars c.in-UpToAny.rest.now)
-         _ (sym c.in-UpToAny.ensures) refl)
+loop-rest-preserved c = (
+  (search rules),
+  c.loop-rest.invariant.1
+      ∙ up_to_any_finds c.args.fold c.loop-rest.steps.now c.in-UpToAny.later.now (chars c.loop-rest.text.now) (chars c.in-UpToAny.rest.now)
+      _ (sym c.in-UpToAny.ensures) refl,
+)

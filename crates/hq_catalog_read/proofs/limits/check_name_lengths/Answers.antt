@@ -13,7 +13,7 @@ returns-in-Some c =
     (ap (λ found. passed (option_map NameLength found))
     (sym c.loop-table.invariant
     ∙ find-found (λ name. not (is_catalog_name name)) declared_names c.args.tables.now c.loop-table.table-index c.table-item.result
-      c.in-Some.name.now c.loop-table-test.true c.table-item.is (sym c.in-Some.ensures))
+    c.in-Some.name.now c.loop-table-test.true c.table-item.is (sym c.in-Some.ensures))
     ∙ ap (λ name. Err (NameLength name)) (sym c.in_ok-copy.ensures))
 
 pub loop-table-preserved : goal.loop-table-preserved

@@ -6,5 +6,5 @@ use Rattle.hq_catalog_read.proofs.node.texts.Goals as goal
 pub loop-place-preserved : goal.loop-place-preserved
 loop-place-preserved c =
     each_from-more_view json_view text_at c.args.path.now c.in_ok-item_path.field-0 c.args.list.now c.loop-place.place
-      c.index-list-place.result c.loop-place.texts c.push.new.self c.in_ok-text.text _ c.loop-place.invariant c.loop-place-test.true
-      c.index-list-place.is c.in_ok-item_path.ensures c.in_ok-text.ensures c.in_ok-push.ensures.ok
+    c.index-list-place.result c.loop-place.texts c.push.new.self c.in_ok-text.text _ c.loop-place.invariant c.loop-place-test.true
+    c.index-list-place.is c.in_ok-item_path.ensures c.in_ok-text.ensures c.in_ok-push.ensures.ok

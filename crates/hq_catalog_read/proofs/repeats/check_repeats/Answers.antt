@@ -22,7 +22,7 @@ returns-in-Some c =
     (ap (λ found. passed (option_map Repeated found))
     (sym c.loop-table.invariant
     ∙ repeat_from-within c.loop-table.earlier c.args.tables.now c.loop-table.table-index c.table-item.result c.in_ok-name.name
-      c.in-Some.name.now c.loop-table-test.true c.table-item.is c.in_ok-name.ensures
+    c.in-Some.name.now c.loop-table-test.true c.table-item.is c.in_ok-name.ensures
     (ap (list_any (λ e. bytes_eq e c.in_ok-name.name)) (sym c.as_slice.ensures) ∙ sym c.is_among.ensures ∙ c.if-is_among.false) (sym c.in-Some.ensures))
     ∙ ap (λ name. Err (Repeated name)) (sym c.in_ok-copy.ensures))
 

@@ -13,10 +13,10 @@ returns-in-Some c =
     let there : required_names (map node_view c.deref.result.now) ≡ required_at (map part_view c.args.parts.now) c.args.place =
     ap (λ ns. required_names (map node_view ns)) c.deref.ensures.value
     ∙ sym
-      (get_or-map_map part_view (λ (p : PartTree). required_names p.nodes) c.args.parts.now c.args.place c.in-Some.part.now []
-         (ltb-true _ _ (sym c.in-Some.ensures.lookup.0)) c.in-Some.ensures.lookup.1)
-      in
+    (get_or-map_map part_view (λ (p : PartTree). required_names p.nodes) c.args.parts.now c.args.place c.in-Some.part.now []
+    (ltb-true _ _ (sym c.in-Some.ensures.lookup.0)) c.in-Some.ensures.lookup.1)
+    in
     subst
-      (λ names. OnOk c.note_required.result
-         ((q : List ℕ) → has_name c.note_required.new.names q ≡ (has_name c.args.names.now q || list_any (λ n. bytes_eq n q) names)))
-      there c.note_required.ensures
+    (λ names. OnOk c.note_required.result
+    ((q : List ℕ) → has_name c.note_required.new.names q ≡ (has_name c.args.names.now q || list_any (λ n. bytes_eq n q) names)))
+    there c.note_required.ensures

@@ -42,12 +42,12 @@ element_sources-loop-placed-preserved t c =
     let seen : source_of vars (placed_view x).value ≡ source_of vars (value_view x.value) = ap (λ (p : PlacedTree). source_of vars p.value) (view-Placed x) in
     let sources = λ (vs : List Placed). element_sources vars (elements_of (map placed_view vs)) in
     let step =
-        λ (o : Option JsonTree) (given : source_of vars (placed_view x).value ≡ o)
-          (grows : map json_view c.match-branch-2.elements.items ≡ map json_view c.loop-placed.elements.items ++ option_to_list o).
+    λ (o : Option JsonTree) (given : source_of vars (placed_view x).value ≡ o)
+    (grows : map json_view c.match-branch-2.elements.items ≡ map json_view c.loop-placed.elements.items ++ option_to_list o).
     given_more sources all at x o _ _ _ c.loop-placed.invariant c.loop-placed-test.true c.placed-item.is (ap (λ p. with_element p (sources (drop (at + 1) all))) given ∙ element_first o _) grows in
     elim c.match-branch-2.branch [
       | element_sources-in-Some+in_ok-push w
-        ↦ step (Some (json_view w.in-Some.json)) (seen ∙ sym c.in_ok-json.ensures ∙ ap (option_map json_view) w.in-Some.is)
+          ↦ step (Some (json_view w.in-Some.json)) (seen ∙ sym c.in_ok-json.ensures ∙ ap (option_map json_view) w.in-Some.is)
           (ap (λ v. map json_view v.items) w.elements-is ∙ ap (map json_view) w.in_ok-push.ensures.items ∙ map-append json_view _ _)
       | element_sources-in_default w ↦
           let none : c.in_ok-json.field-0 ≡ None = search rules in
@@ -65,19 +65,19 @@ member_sources-loop-argument-preserved t c =
     let sources = λ (ms : List Argument). member_sources vars (members_of (map argument_view ms)) in
     let named : JsonTree → List ℕ × JsonTree = λ j. ((argument_view x).name, j) in
     let step =
-        λ (o : Option JsonTree) (given : source_of vars (argument_view x).value.value ≡ o)
-          (grows : map member_view c.match-branch-2.members.items ≡ map member_view c.loop-argument.members.items ++ option_to_list (option_map named o)).
+    λ (o : Option JsonTree) (given : source_of vars (argument_view x).value.value ≡ o)
+    (grows : map member_view c.match-branch-2.members.items ≡ map member_view c.loop-argument.members.items ++ option_to_list (option_map named o)).
     given_more sources all at x (option_map named o) _ _ _ c.loop-argument.invariant c.loop-argument-test.true c.argument-item.is
-      (ap (λ p. with_member (argument_view x).name p (sources (drop (at + 1) all))) given ∙ member_first (argument_view x).name o _) grows
-      in
+    (ap (λ p. with_member (argument_view x).name p (sources (drop (at + 1) all))) given ∙ member_first (argument_view x).name o _) grows
+    in
     elim c.match-branch-2.branch [
       | member_sources-in-Some+in_ok-copy+in_ok-push w ↦
           let pushed : Member = record { name = w.in_ok-copy.field-0; value = w.in-Some.value } in
           let name : w.in_ok-copy.field-0 ≡ (argument_view x).name = w.in_ok-copy.ensures ∙ sym (ap (λ (a : ArgumentTree). a.name) (view-Argument x)) in
           step (Some (json_view w.in-Some.value)) (seen ∙ sym c.in_ok-value.ensures ∙ ap (option_map json_view) w.in-Some.is)
           (ap (λ v. map member_view v.items) w.members-is ∙ ap (map member_view) w.in_ok-push.ensures.items ∙ map-append member_view _ _
-             ∙ ap (λ (n : List ℕ × JsonTree). map member_view c.loop-argument.members.items ++ n ∷ [])
-               (view-Member pushed ∙ ap (λ (n : List ℕ). (n, json_view w.in-Some.value)) name))
+          ∙ ap (λ (n : List ℕ × JsonTree). map member_view c.loop-argument.members.items ++ n ∷ [])
+          (view-Member pushed ∙ ap (λ (n : List ℕ). (n, json_view w.in-Some.value)) name))
       | member_sources-in_default w ↦
           let none : c.in_ok-value.field-0 ≡ None = search rules in
           step None (seen ∙ sym c.in_ok-value.ensures ∙ ap (option_map json_view) none) (ap (λ v. map member_view v.items) w.members-is ∙ sym (append-nil _))
@@ -97,8 +97,8 @@ member_sources-returns t c =
     let done = map member_view c.loop-argument.members.items in
     sym (append-nil done)
     ∙ sym
-      (at_drop_all (λ (ms : List Argument). done ++ member_sources vars (members_of (map argument_view ms)))
-         c.deref-argument-items.result.now c.loop-argument.argument-index c.loop-argument-test.false)
+    (at_drop_all (λ (ms : List Argument). done ++ member_sources vars (members_of (map argument_view ms)))
+    c.deref-argument-items.result.now c.loop-argument.argument-index c.loop-argument-test.false)
     ∙ c.loop-argument.invariant
 
 -- a list and an object are seen as their parts

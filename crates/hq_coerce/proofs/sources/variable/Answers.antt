@@ -9,11 +9,11 @@ pub returns-in_ok-copy-in-Some : goal.returns-in_ok-copy-in-Some
 returns-in_ok-copy-in-Some c =
     ap Some c.in_ok-copy-in-Some.ensures
     ∙ ap (option_map (λ (v : VarTree). v.value))
-      (found_seen (λ (v : VarTree). bytes_eq v.name c.args.name.now) (λ (v : VarValue). bytes_eq v.name c.args.name.now) var_view
-         c.args.vars.now (Some c.in-Some.var) (λ v. refl) c.in-Some.ensures)
+    (found_seen (λ (v : VarTree). bytes_eq v.name c.args.name.now) (λ (v : VarValue). bytes_eq v.name c.args.name.now) var_view
+    c.args.vars.now (Some c.in-Some.var) (λ v. refl) c.in-Some.ensures)
 
 pub returns-in-None : goal.returns-in-None
 returns-in-None c =
     ap (option_map (λ (v : VarTree). v.value))
-      (found_seen (λ (v : VarTree). bytes_eq v.name c.args.name.now) (λ (v : VarValue). bytes_eq v.name c.args.name.now) var_view
-         c.args.vars.now None (λ v. refl) c.in-None.ensures)
+    (found_seen (λ (v : VarTree). bytes_eq v.name c.args.name.now) (λ (v : VarValue). bytes_eq v.name c.args.name.now) var_view
+    c.args.vars.now None (λ v. refl) c.in-None.ensures)

@@ -27,8 +27,8 @@ variable_value-requires c =
 pub loop-at-preserved : goal.loop-at-preserved
 loop-at-preserved c =
     values_more (schema_view c.args.schema.now) (has_name c.args.required.now) (map given_seen c.args.given.now) c.args.vars.now
-      c.loop-at.at c.index-vars-at.result (option_map json_view c.in_ok-value.value) _ _ _ c.loop-at.invariant c.loop-at-test.true
-      c.index-vars-at.is
+    c.loop-at.at c.index-vars-at.result (option_map json_view c.in_ok-value.value) _ _ _ c.loop-at.invariant c.loop-at-test.true
+    c.index-vars-at.is
     c.in_ok-value.ensures c.in_ok-push_value.ensures
 
 pub returns-in_err-value : goal.returns-in_err-value

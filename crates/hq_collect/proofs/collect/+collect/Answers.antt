@@ -17,5 +17,5 @@ collect-returns t c =
     sym (collect_some c.args.levels (c.args.levels - 1) r (map selection_view c.args.selections.now) (seen c.args.collected.now) more
     ∙ c.loop-selection.invariant
     ∙ at_drop_all
-      (λ (xs : List Selection). collect_each (collect (c.args.levels - 1) r) r (map selection_view xs) (seen c.loop-selection.collected))
-      c.args.selections.now c.loop-selection.selection-index c.loop-selection-test.false)
+    (λ (xs : List Selection). collect_each (collect (c.args.levels - 1) r) r (map selection_view xs) (seen c.loop-selection.collected))
+    c.args.selections.now c.loop-selection.selection-index c.loop-selection-test.false)

@@ -29,22 +29,22 @@ without_field-returns t c =
 pub without_fields-loop-field-preserved : goal.without_fields-loop-field-preserved
 without_fields-loop-field-preserved t c =
     counts_on (λ (f : CollectedField). seen_nodes (map var_view c.args.vars.now) (parts_seen f))
-      (λ (fs : List CollectedField). field_nodes (map var_view c.args.vars.now) (trees_of (map collected_view fs)))
-      (λ f fs. ap
-         (λ (s : FieldSeen). seen_nodes (map var_view c.args.vars.now) s
-            + field_nodes (map var_view c.args.vars.now) (trees_of (map collected_view fs)))
-         (view_out f))
-      c.deref-field-items.result.now c.loop-field.field-index c.field-item.result c.loop-field.left c.in_ok-left.left _
+    (λ (fs : List CollectedField). field_nodes (map var_view c.args.vars.now) (trees_of (map collected_view fs)))
+    (λ f fs. ap
+    (λ (s : FieldSeen). seen_nodes (map var_view c.args.vars.now) s
+    + field_nodes (map var_view c.args.vars.now) (trees_of (map collected_view fs)))
+    (view_out f))
+    c.deref-field-items.result.now c.loop-field.field-index c.field-item.result c.loop-field.left c.in_ok-left.left _
     c.loop-field.invariant c.loop-field-test.true c.field-item.is (sym c.without_field.ensures ∙ c.in_ok-left.was)
 
 pub without_fields-returns-in_err-left : goal.without_fields-returns-in_err-left
 without_fields-returns-in_err-left t c =
     c.from_residual.ensures
     ∙ sym (counts_out (λ (f : CollectedField). seen_nodes (map var_view c.args.vars.now) (parts_seen f))
-      (λ (fs : List CollectedField). field_nodes (map var_view c.args.vars.now) (trees_of (map collected_view fs)))
-      (λ f fs. ap
-         (λ (s : FieldSeen). seen_nodes (map var_view c.args.vars.now) s
-            + field_nodes (map var_view c.args.vars.now) (trees_of (map collected_view fs)))
-         (view_out f))
-      c.deref-field-items.result.now c.loop-field.field-index c.field-item.result c.loop-field.left _
+    (λ (fs : List CollectedField). field_nodes (map var_view c.args.vars.now) (trees_of (map collected_view fs)))
+    (λ f fs. ap
+    (λ (s : FieldSeen). seen_nodes (map var_view c.args.vars.now) s
+    + field_nodes (map var_view c.args.vars.now) (trees_of (map collected_view fs)))
+    (view_out f))
+    c.deref-field-items.result.now c.loop-field.field-index c.field-item.result c.loop-field.left _
     c.loop-field.invariant c.loop-field-test.true c.field-item.is (sym c.without_field.ensures ∙ c.in_err-left.was))

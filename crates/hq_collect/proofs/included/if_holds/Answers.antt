@@ -12,12 +12,12 @@ unfolding if_holds
 returns-in-Some c =
     c.value_holds.ensures ∙ ap (value_holds (map var_view c.args.vars.now)) (sym (argument_value c.in-Some.arg.now))
     ∙ ap (arg_holds (map var_view c.args.vars.now))
-      (found_seen (λ (a : ArgumentTree). bytes_eq a.name (codes "if")) (λ (a : Argument). bytes_eq a.name (codes "if")) argument_view
-         c.args.args.now (Some c.in-Some.arg) (λ a. ap (λ name. bytes_eq name (codes "if")) (argument_name a)) c.in-Some.ensures)
+    (found_seen (λ (a : ArgumentTree). bytes_eq a.name (codes "if")) (λ (a : Argument). bytes_eq a.name (codes "if")) argument_view
+    c.args.args.now (Some c.in-Some.arg) (λ a. ap (λ name. bytes_eq name (codes "if")) (argument_name a)) c.in-Some.ensures)
 
 pub returns-in-None : goal.returns-in-None
 unfolding if_holds
 returns-in-None c =
     ap (arg_holds (map var_view c.args.vars.now))
-      (found_seen (λ (a : ArgumentTree). bytes_eq a.name (codes "if")) (λ (a : Argument). bytes_eq a.name (codes "if")) argument_view
-         c.args.args.now None (λ a. ap (λ name. bytes_eq name (codes "if")) (argument_name a)) c.in-None.ensures)
+    (found_seen (λ (a : ArgumentTree). bytes_eq a.name (codes "if")) (λ (a : Argument). bytes_eq a.name (codes "if")) argument_view
+    c.args.args.now None (λ a. ap (λ name. bytes_eq name (codes "if")) (argument_name a)) c.in-None.ensures)

@@ -11,12 +11,12 @@ unfolding variable_holds
 returns-in-Some c =
     c.is_true.ensures
     ∙ ap (λ (o : Option VarTree). is_true_value (option_map (λ v. v.value) o))
-      (found_seen (λ (v : VarTree). bytes_eq v.name c.args.name.now) (λ (v : VarValue). bytes_eq v.name c.args.name.now) var_view
-         c.args.vars.now (Some c.in-Some.var) (λ v. refl) c.in-Some.ensures)
+    (found_seen (λ (v : VarTree). bytes_eq v.name c.args.name.now) (λ (v : VarValue). bytes_eq v.name c.args.name.now) var_view
+    c.args.vars.now (Some c.in-Some.var) (λ v. refl) c.in-Some.ensures)
 
 pub returns-in-None : goal.returns-in-None
 unfolding variable_holds
 returns-in-None c =
     ap (λ (o : Option VarTree). is_true_value (option_map (λ v. v.value) o))
-      (found_seen (λ (v : VarTree). bytes_eq v.name c.args.name.now) (λ (v : VarValue). bytes_eq v.name c.args.name.now) var_view
-         c.args.vars.now None (λ v. refl) c.in-None.ensures)
+    (found_seen (λ (v : VarTree). bytes_eq v.name c.args.name.now) (λ (v : VarValue). bytes_eq v.name c.args.name.now) var_view
+    c.args.vars.now None (λ v. refl) c.in-None.ensures)

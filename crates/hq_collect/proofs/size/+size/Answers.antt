@@ -7,9 +7,9 @@ use Rattle.hq_collect.proofs.size.+size.Goals as goal
 pub left_after-returns-then-levels-eq0 : goal.left_after-returns-then-levels-eq0
 left_after-returns-then-levels-eq0 t c =
     c.left_where_empty.ensures
-      ∙ sym
-        (left_none c.args.levels (document_of c.args.fragments.now) (map selection_view c.args.selections.now) c.args.left
-           c.if-levels-eq0.true)
+    ∙ sym
+    (left_none c.args.levels (document_of c.args.fragments.now) (map selection_view c.args.selections.now) c.args.left
+    c.if-levels-eq0.true)
 
 pub left_after-returns : goal.left_after-returns
 left_after-returns t c =

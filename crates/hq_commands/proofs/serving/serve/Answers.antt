@@ -21,7 +21,7 @@ returns-in_err-serve_loaded-clause-ends g c =
     not_served (record { left = g.D.Link.Link.left; written = g.D.Link.Link.written; read_faults = g.D.Link.Link.read_faults; write_faults = g.D.Link.Link.write_faults })
     c.args.rule.now c.args.connections before after (g.K.Sink.written c.args.out.now) (g.K.Sink.written c.serve_loaded.new.out) (g.F.Files.folder c.args.files.now) c.args.dir.now
     (loaded_view c.in_ok-loaded.loaded) c.in_err-serve_loaded.field-0.0 c.from_residual-in_err-serve_loaded.result
-      (p.1 ∙ ap (λ e. Err e) p.2) c.in_ok-loaded.ensures.told c.in_err-serve_loaded.ensures.opens
+    (p.1 ∙ ap (λ e. Err e) p.2) c.in_ok-loaded.ensures.told c.in_err-serve_loaded.ensures.opens
 
 pub returns-clause-ends : goal.returns-clause-ends
 returns-clause-ends g c =

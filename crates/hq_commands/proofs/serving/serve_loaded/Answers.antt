@@ -11,9 +11,9 @@ returns-clause-opens g c =
     opens_over (record { left = g.D.Link.Link.left; written = g.D.Link.Link.written; read_faults = g.D.Link.Link.read_faults; write_faults = g.D.Link.Link.write_faults })
     c.args.rule.now c.args.connections loaded.catalog.tables engine.catalog.tables (meta_view loaded.meta) (meta_view engine.meta) loaded.rows _
     (g.D.Door.accepted c.args.door.now) (g.D.Door.accepted c.listen.new.self) (g.D.Door.accepted c.serve_by_secret.new.door)
-      (g.D.Door.faults c.args.door.now) (g.D.Door.faults c.serve_by_secret.new.door)
+    (g.D.Door.faults c.args.door.now) (g.D.Door.faults c.serve_by_secret.new.door)
     (g.D.Door.links c.args.door.now) (g.D.Door.links c.listen.new.self) (g.D.Door.links c.serve_by_secret.new.door)
-      (g.K.Sink.written c.args.out.now) (g.K.Sink.written c.serve_by_secret.new.out) c.serve_by_secret.result
+    (g.K.Sink.written c.args.out.now) (g.K.Sink.written c.serve_by_secret.new.out) c.serve_by_secret.result
     c.in_ok-instance.ensures.catalog c.in_ok-instance.ensures.meta c.in_ok-instance.ensures.rows
     c.in_ok-listen.ensures.accepted c.in_ok-listen.ensures.links c.serve_by_secret.ensures.serves.1
 

@@ -9,5 +9,5 @@ pub loop-column-preserved : goal.loop-column-preserved
 loop-column-preserved c =
     let rest = distinct_columns c.args.columns.now (own_look c.args.columns.now c.args.number) in
     viewed_rest-more expr_view rest rest c.args.distinct.now c.loop-column.column-index c.column-item.result c.loop-column.exprs.items
-      c.push.new.self.items c.in_ok-compared_column.field-0 _ _ c.loop-column.invariant c.loop-column-test.true c.column-item.is refl
-      c.in_ok-compared_column.ensures c.in_ok-push.ensures.items
+    c.push.new.self.items c.in_ok-compared_column.field-0 _ _ c.loop-column.invariant c.loop-column-test.true c.column-item.is refl
+    c.in_ok-compared_column.ensures c.in_ok-push.ensures.items

@@ -19,7 +19,7 @@ loop-i-preserved c =
     let done = c.loop-i.order.items in
     let made = c.in_ok-output_order.field-0 in
     rest-more (λ (ks : List RowSort). output_orders (map row_sort_view ks) s t n i)
-      (λ (ks : List RowSort). output_orders (map row_sort_view ks) s t n (i + 1)) sorts i c.index-sorts-i.result (map order_view done)
-      (map order_view c.push.new.self.items) (order_view made ∷ []) _ c.loop-i.invariant c.loop-i-test.true c.index-sorts-i.is
+    (λ (ks : List RowSort). output_orders (map row_sort_view ks) s t n (i + 1)) sorts i c.index-sorts-i.result (map order_view done)
+    (map order_view c.push.new.self.items) (order_view made ∷ []) _ c.loop-i.invariant c.loop-i-test.true c.index-sorts-i.is
     (ap (λ (os : List OrderTree). os ++ output_orders (map row_sort_view (drop (i + 1) sorts)) s t n (i + 1)) (sym c.in_ok-output_order.ensures))
     (ap (map order_view) c.in_ok-push.ensures.items ∙ map-append order_view done (made ∷ []))

@@ -34,22 +34,22 @@ loop-i-preserved c =
     record {
       joins =
           rest-more (λ (ks : List RowSort). sorts_joins (map row_sort_view ks) s g t p next)
-            (λ (ks : List RowSort). sorts_joins (map row_sort_view ks) s g t p after) sorts i sort (map join_view old.joins.items)
-            (map join_view new.joins.items) joins _ is.joins c.loop-i-test.true c.index-sorts-i.is
+          (λ (ks : List RowSort). sorts_joins (map row_sort_view ks) s g t p after) sorts i sort (map join_view old.joins.items)
+          (map join_view new.joins.items) joins _ is.joins c.loop-i-test.true c.index-sorts-i.is
           (ap (λ (n : ℕ). joins ++ sorts_joins rest s g t p n) (sym adds.numbers)) adds.joins;
       orders =
           rest-more (λ (ks : List RowSort). orders (map row_sort_view ks) s g look t p next)
-            (λ (ks : List RowSort). orders (map row_sort_view ks) s g look t p after) sorts i sort (map order_view old.orders.items)
-            (map order_view new.orders.items) order _ is.orders c.loop-i-test.true c.index-sorts-i.is
+          (λ (ks : List RowSort). orders (map row_sort_view ks) s g look t p after) sorts i sort (map order_view old.orders.items)
+          (map order_view new.orders.items) order _ is.orders c.loop-i-test.true c.index-sorts-i.is
           (ap (λ (n : ℕ). order ++ orders rest s g look t p n) (sym adds.numbers)) adds.orders;
       outputs =
           rest-more (λ (ks : List RowSort). key_outputs (map row_sort_view ks) s g look t p next i)
-            (λ (ks : List RowSort). key_outputs (map row_sort_view ks) s g look t p after (i + 1)) sorts i sort
-            (map out_view old.outputs.items) (map out_view new.outputs.items) output _ is.outputs c.loop-i-test.true c.index-sorts-i.is
+          (λ (ks : List RowSort). key_outputs (map row_sort_view ks) s g look t p after (i + 1)) sorts i sort
+          (map out_view old.outputs.items) (map out_view new.outputs.items) output _ is.outputs c.loop-i-test.true c.index-sorts-i.is
           (ap (λ (n : ℕ). output ++ key_outputs rest s g look t p n (i + 1)) (sym adds.numbers)) adds.outputs;
       numbers =
           count-more (λ (ks : List RowSort). sorts_numbers (map row_sort_view ks) s g t) sorts i sort next after
-            (sort_numbers sort.through s g t sort.column) _ is.numbers c.loop-i-test.true c.index-sorts-i.is refl adds.numbers;
+          (sort_numbers sort.through s g t sort.column) _ is.numbers c.loop-i-test.true c.index-sorts-i.is refl adds.numbers;
     }
 
 -- behind the last sort key nothing is left
@@ -77,7 +77,7 @@ returns-clause-outputs c =
     let look = own_look (table s c.args.t).columns c.args.p in
     let done = map out_view c.loop-i.parts.outputs.items in
     sym (append-nil done)
-      ∙ sym
-        (at_drop_all (λ (ks : List RowSort). done ++ key_outputs (map row_sort_view ks) s g look c.args.t c.args.p c.loop-i.next c.loop-i.i)
-           c.args.sorts.now c.loop-i.i c.loop-i-test.false)
+    ∙ sym
+    (at_drop_all (λ (ks : List RowSort). done ++ key_outputs (map row_sort_view ks) s g look c.args.t c.args.p c.loop-i.next c.loop-i.i)
+    c.args.sorts.now c.loop-i.i c.loop-i-test.false)
     ∙ c.loop-i.invariant.outputs

@@ -9,5 +9,5 @@ pub loop-column-preserved : goal.loop-column-preserved
 loop-column-preserved c =
     let rest = λ (columns : List ℕ). shown_sorts (ascending columns) [] in
     viewed_rest-more row_sort_view rest rest c.args.columns.now c.loop-column.column-index c.column-item.result c.loop-column.sorts
-      c.push.new.self c.column_sort.result _ _ c.loop-column.invariant c.loop-column-test.true c.column-item.is refl c.column_sort.ensures
-      c.in_ok-push.ensures.ok
+    c.push.new.self c.column_sort.result _ _ c.loop-column.invariant c.loop-column-test.true c.column-item.is refl c.column_sort.ensures
+    c.in_ok-push.ensures.ok

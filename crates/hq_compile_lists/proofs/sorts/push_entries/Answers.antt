@@ -10,5 +10,5 @@ pub loop-entry-preserved : goal.loop-entry-preserved
 loop-entry-preserved c =
     let rest = λ (entries : List Sort). shown_sorts (map sort_view entries) [] in
     viewed_rest-more row_sort_view rest rest c.args.entries.now c.loop-entry.entry-index c.entry-item.result c.loop-entry.sorts
-      c.push.new.self c.in_ok-entry_sort.field-0 _ _ c.loop-entry.invariant c.loop-entry-test.true c.entry-item.is refl
-      c.in_ok-entry_sort.ensures c.in_ok-push.ensures.ok
+    c.push.new.self c.in_ok-entry_sort.field-0 _ _ c.loop-entry.invariant c.loop-entry-test.true c.entry-item.is refl
+    c.in_ok-entry_sort.ensures c.in_ok-push.ensures.ok

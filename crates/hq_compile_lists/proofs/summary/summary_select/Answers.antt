@@ -10,9 +10,9 @@ pub returns-then-some_aggregate-clause-select : goal.returns-then-some_aggregate
 returns-then-some_aggregate-clause-select c =
     IfOk-weaker c.folded_select.result _ _
     (λ select is. is
-      ∙ summary_folded (context_schema c.args.context.now) (context_rights c.args.context.now) c.args.t c.args.n
-        (arguments_view c.args.start.now.args.now) (start_tie (context_schema c.args.context.now) c.args.start.now c.args.n)
-        c.args.fields.now
+    ∙ summary_folded (context_schema c.args.context.now) (context_rights c.args.context.now) c.args.t c.args.n
+    (arguments_view c.args.start.now.args.now) (start_tie (context_schema c.args.context.now) c.args.start.now c.args.n)
+    c.args.fields.now
     (sym c.some_aggregate.ensures ∙ c.if-some_aggregate.true))
     c.folded_select.ensures.select
 
@@ -20,8 +20,8 @@ pub returns-else-some_aggregate-clause-select : goal.returns-else-some_aggregate
 returns-else-some_aggregate-clause-select c =
     IfOk-weaker c.plain_select.result _ _
     (λ select is. is
-      ∙ summary_plain (context_schema c.args.context.now) (context_rights c.args.context.now) c.args.t c.args.n
-        (arguments_view c.args.start.now.args.now) (start_tie (context_schema c.args.context.now) c.args.start.now c.args.n)
-        c.args.fields.now
+    ∙ summary_plain (context_schema c.args.context.now) (context_rights c.args.context.now) c.args.t c.args.n
+    (arguments_view c.args.start.now.args.now) (start_tie (context_schema c.args.context.now) c.args.start.now c.args.n)
+    c.args.fields.now
     (sym c.some_aggregate.ensures ∙ c.if-some_aggregate.false))
     c.plain_select.ensures

@@ -37,9 +37,9 @@ predicates-loop-bexp-preserved g t c =
     record {
       predicates =
           viewed_rest-more pred_view (from next) (from c.predicate.new.next) bexps i b c.loop-bexp.preds.items c.push.new.self.items
-            c.in_ok-predicate.field-0 head _ c.loop-bexp.invariant.predicates c.loop-bexp-test.true c.bexp-item.is
+          c.in_ok-predicate.field-0 head _ c.loop-bexp.invariant.predicates c.loop-bexp-test.true c.bexp-item.is
           (ap (λ (n : ℕ). head ∷ from n (drop (i + 1) bexps)) (sym c.in_ok-predicate.ensures.numbers)) c.in_ok-predicate.ensures.predicate c.in_ok-push.ensures.items;
       numbers =
           count-more count bexps i b next c.predicate.new.next (numbers (bexp_view b) s mode c.args.t) _ c.loop-bexp.invariant.numbers
-            c.loop-bexp-test.true c.bexp-item.is refl c.in_ok-predicate.ensures.numbers;
+          c.loop-bexp-test.true c.bexp-item.is refl c.in_ok-predicate.ensures.numbers;
     }

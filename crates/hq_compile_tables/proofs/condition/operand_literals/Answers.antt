@@ -8,5 +8,5 @@ pub loop-operand-preserved : goal.loop-operand-preserved
 loop-operand-preserved c =
     let rest = map operand_literal in
     viewed_rest-more expr_view rest rest c.args.operands.now c.loop-operand.operand-index c.operand-item.result
-      c.loop-operand.literals.items c.push.new.self.items c.in_ok-operand_literal.field-0 _ _ c.loop-operand.invariant
-      c.loop-operand-test.true c.operand-item.is refl c.in_ok-operand_literal.ensures c.in_ok-push.ensures.items
+    c.loop-operand.literals.items c.push.new.self.items c.in_ok-operand_literal.field-0 _ _ c.loop-operand.invariant
+    c.loop-operand-test.true c.operand-item.is refl c.in_ok-operand_literal.ensures c.in_ok-push.ensures.items

@@ -8,5 +8,5 @@ pub loop-column-preserved : goal.loop-column-preserved
 loop-column-preserved c =
     let rest = key_orders c.args.columns.now c.args.number in
     viewed_rest-more order_view rest rest c.args.key.now c.loop-column.column-index c.column-item.result c.loop-column.orders.items
-      c.push.new.self.items c.in_ok-key_order.field-0 _ _ c.loop-column.invariant c.loop-column-test.true c.column-item.is refl
-      c.in_ok-key_order.ensures c.in_ok-push.ensures.items
+    c.push.new.self.items c.in_ok-key_order.field-0 _ _ c.loop-column.invariant c.loop-column-test.true c.column-item.is refl
+    c.in_ok-key_order.ensures c.in_ok-push.ensures.items

@@ -19,7 +19,7 @@ returns-clause-answered g c =
     (subst (λ ts. is_statement s ts ≡ true) c.catalog.ensures (sym c.in_ok-well_formed.ensures ∙ c.if-not-branch.false))
     c.in_ok-pin_tables.ensures.within
     (λ t scanned. subst (λ d. IfSome d (λ all. g.T.Tables.rows pinned t ≡ slice_index_or all t [])) c.in_ok-pin_tables.ensures.database
-       (g.met.T.Tables.pinned_told pinned t (c.in_ok-pin_tables.ensures.pinned t scanned)))
+    (g.met.T.Tables.pinned_told pinned t (c.in_ok-pin_tables.ensures.pinned t scanned)))
     (c.only_scanned_tables_matter.ensures s tables)
     (subst (λ ts. (d : List (List Row)) → HasRows s ts (g.T.Tables.rows pinned) d → IsAnswer c.in_ok-eval.field-0 (meaning s (record { tables = ts; database = d }))) same
     c.in_ok-eval.ensures.value)

@@ -21,4 +21,4 @@ returns-clause-within g c =
     let same = c.as_slice.ensures ∙ c.catalog.ensures in
     let marks = c.in_ok-marks.marks.items in
     scanned_within (g.T.Tables.tables c.args.tables.now) s marks (c.in_ok-marks.ensures.count ∙ ap length same)
-      (subst (λ ts. (t : ℕ) → slice_index_or marks t false ≡ scans s ts t) same c.in_ok-marks.ensures.marks)
+    (subst (λ ts. (t : ℕ) → slice_index_or marks t false ≡ scans s ts t) same c.in_ok-marks.ensures.marks)

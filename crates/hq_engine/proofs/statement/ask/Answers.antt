@@ -14,12 +14,12 @@ use Rattle.hq_engine.proofs.statement.ask.Goals as goal
 
 -- what is answered is the meaning of each statement that the text spells
 answered_means : (tables : List Table) (text : List ℕ) (answer : Answer) → ((a b : SelectTree) → Spells text a → Spells text b → a ≡ b)
-  → (database : Option (List (List Row))) → Answered tables database text answer
+    → (database : Option (List (List Row))) → Answered tables database text answer
     → IfSome database (IsMeaning tables text answer)
 answered_means tables text answer one None answered = tt
 answered_means tables text answer one (Some d) answered =
     λ s spelled. subst (λ (t : SelectTree). IsAnswer answer (meaning t (record { tables = tables; database = d })))
-      (one answered.statement s answered.spelled spelled) (answered.is ∙ ap answer_of answered.meant)
+    (one answered.statement s answered.spelled spelled) (answered.is ∙ ap answer_of answered.meant)
 
 -- a statement that fits is not one that does not
 both_fit : (tables : List Table) (text : List ℕ) → ((a b : SelectTree) → Spells text a → Spells text b → a ≡ b) → (s : SelectTree) → Spells text s → IsTyped tables s → NotFitting tables text → ⊥
@@ -31,7 +31,7 @@ unreachable-requires g c = c.in-Err-NotSql.ensures.not_sql (ap (λ e. Err e) c.i
 pub unreachable-requires-in-Err-NotTyped : goal.unreachable-requires-in-Err-NotTyped
 unreachable-requires-in-Err-NotTyped g c =
     both_fit (g.D.Database.tables c.args.db.now) c.args.text.now (c.one_tree.ensures c.args.text.now) c.requires.0 c.requires.1 c.requires.2
-      (c.in-Err-NotTyped.ensures.not_typed (ap (λ e. Err e) c.in-Err-NotTyped.field-0-is))
+    (c.in-Err-NotTyped.ensures.not_typed (ap (λ e. Err e) c.in-Err-NotTyped.field-0-is))
 
 pub returns-in-Ok-clause-answered : goal.returns-in-Ok-clause-answered
 returns-in-Ok-clause-answered g c =

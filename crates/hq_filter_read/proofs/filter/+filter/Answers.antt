@@ -18,16 +18,16 @@ member_bexps-returns-in_err-bexp t c =
     elim c.in_err-bexp.ensures [
       | inl m ↦ inl m
       | inr given
-        ↦ inr
+          ↦ inr
           (members_refused (scope_schema c.args.scope.now) c.args.t c.args.path.now c.in_ok-path.path c.deref-member-items.result.now
-             c.loop-member.member-index c.member-item.result _ e _ c.loop-member.invariant c.loop-member-test.true c.member-item.is
-             (c.in_ok-path.ensures ∙ ap (member_path c.args.path.now) c.as_str.ensures) given)
+          c.loop-member.member-index c.member-item.result _ e _ c.loop-member.invariant c.loop-member-test.true c.member-item.is
+          (c.in_ok-path.ensures ∙ ap (member_path c.args.path.now) c.as_str.ensures) given)
     ] in
     search rules
 
 pub member_bexps-loop-member-preserved : goal.member_bexps-loop-member-preserved
 member_bexps-loop-member-preserved t c =
     members_more (scope_schema c.args.scope.now) c.args.t c.args.path.now c.in_ok-path.path c.deref-member-items.result.now
-      c.loop-member.member-index c.member-item.result _ _ (bexp_view c.in_ok-bexp.bexp) _ c.loop-member.invariant c.loop-member-test.true
-      c.member-item.is
+    c.loop-member.member-index c.member-item.result _ _ (bexp_view c.in_ok-bexp.bexp) _ c.loop-member.invariant c.loop-member-test.true
+    c.member-item.is
     (c.in_ok-path.ensures ∙ ap (member_path c.args.path.now) c.as_str.ensures) c.in_ok-bexp.ensures (ap (map bexp_view) c.in_ok-push.ensures.items ∙ map-append bexp_view _ _)

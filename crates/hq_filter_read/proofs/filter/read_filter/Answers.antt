@@ -25,5 +25,5 @@ returns-clause-shallow c =
     let due = filter_due (json_view c.args.json.now) s c.args.t c.args.path.now in
     ok_gives bexp_view Memory due (λ b. depth b ≤ 2 * nesting (json_view c.args.json.now)) c.filter.result
     (ok_weaker due (Good (2 * nesting (json_view c.args.json.now)) s c.args.t) (λ b. depth b ≤ 2 * nesting (json_view c.args.json.now))
-       (λ b h. h.shallow) (filter_good (json_view c.args.json.now) s c.args.t c.args.path.now))
+    (λ b h. h.shallow) (filter_good (json_view c.args.json.now) s c.args.t c.args.path.now))
     c.filter.ensures

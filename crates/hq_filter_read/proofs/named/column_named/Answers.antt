@@ -10,12 +10,12 @@ unfolding column_named
 returns-in-Some c =
     c.column_in.ensures
     ∙ ap (λ table. position (λ column. bytes_eq column.name c.args.name.now) table.columns)
-      (sym
-         (table_present c.args.scope.now.catalog.now.tables (meta_view c.args.scope.now.meta.now) c.args.t c.in-Some.table.now
-            (sym c.in-Some.ensures)))
+    (sym
+    (table_present c.args.scope.now.catalog.now.tables (meta_view c.args.scope.now.meta.now) c.args.t c.in-Some.table.now
+    (sym c.in-Some.ensures)))
 
 pub returns-in-None : goal.returns-in-None
 unfolding column_named
 returns-in-None c =
     ap (λ table. position (λ column. bytes_eq column.name c.args.name.now) table.columns)
-      (sym (table_absent c.args.scope.now.catalog.now.tables (meta_view c.args.scope.now.meta.now) c.args.t (sym c.in-None.ensures)))
+    (sym (table_absent c.args.scope.now.catalog.now.tables (meta_view c.args.scope.now.meta.now) c.args.t (sym c.in-None.ensures)))

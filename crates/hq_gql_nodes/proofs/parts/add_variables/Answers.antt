@@ -20,4 +20,4 @@ loop-at-preserved c =
     let s = schema_view c.args.schema.now in
     item_added (λ (vs : List VarDef). variables_nodes s (map var_def_view vs)) c.args.vars.now.items c.loop-at.at c.var_def-item.result
     (variable_nodes s (var_def_view c.var_def-item.result)) (map node_view c.loop-at.nodes.items)
-      (map node_view c.add_variable.new.nodes.items) _ c.loop-at.invariant (omega arith) (search rules) refl c.in_ok-add_variable.ensures
+    (map node_view c.add_variable.new.nodes.items) _ c.loop-at.invariant (omega arith) (search rules) refl c.in_ok-add_variable.ensures

@@ -35,8 +35,8 @@ loop-at-init c =
       first = λ q h. made.marked q (subst (λ (n : ℕ). Among n c.args.starts.now q) (sym many) h);
       steps =
           in_steps_first rows c.args.starts.now new
-            (subst (λ (xs : List ℕ). Adds (length rows) c.args.starts.now xs new) c.new-order.ensures.items
-               (subst (λ (n : ℕ). Adds n c.args.starts.now c.new-order.result.items new) many made.adds));
+          (subst (λ (xs : List ℕ). Adds (length rows) c.args.starts.now xs new) c.new-order.ensures.items
+          (subst (λ (n : ℕ). Adds n c.args.starts.now c.new-order.result.items new) many made.adds));
       closed = λ j h. absurd (omega arith);
     }
 

@@ -7,4 +7,4 @@ use Rattle.hq_gql_nodes.proofs.selections.add_field_head.Goals as goal
 pub returns : goal.returns
 returns c =
     nodes_then c.add_directives.result (map node_view c.args.nodes.now.items) (map node_view c.add_arguments.new.nodes.items) _ _ _ _
-      c.in_ok-add_arguments.ensures (search (rules, the_lemmas)) c.add_directives.ensures
+    c.in_ok-add_arguments.ensures (search (rules, the_lemmas)) c.add_directives.ensures

@@ -8,4 +8,4 @@ pub returns : goal.returns
 returns c =
     let old = c.args.nodes.now.items in
     nodes_then c.add_value.result (map node_view old) (map node_view c.push.new.self.items) _ _ _ _
-      (node_added node_view old _ _ c.in_ok-push.ensures.items) (search (rules, the_lemmas)) c.add_value.ensures
+    (node_added node_view old _ _ c.in_ok-push.ensures.items) (search (rules, the_lemmas)) c.add_value.ensures

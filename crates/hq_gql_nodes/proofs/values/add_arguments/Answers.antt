@@ -12,5 +12,5 @@ loop-argument-preserved c =
     let args = option_map (λ defs. map arg_view defs.now) c.args.args in
     item_added (λ (xs : List Argument). arguments_nodes s args (map argument_view xs)) c.deref-argument-items.result.now c.loop-argument.argument-index c.argument-item.result
     (argument_nodes s args (argument_view c.argument-item.result)) (map node_view c.loop-argument.nodes.items)
-      (map node_view c.add_argument.new.nodes.items) _ c.loop-argument.invariant c.loop-argument-test.true c.argument-item.is refl
-      c.in_ok-add_argument.ensures
+    (map node_view c.add_argument.new.nodes.items) _ c.loop-argument.invariant c.loop-argument-test.true c.argument-item.is refl
+    c.in_ok-add_argument.ensures

@@ -8,4 +8,4 @@ use Rattle.hq_gql_nodes.proofs.variables.variable_types.Given as goal
 abbrev pub invariant-loop-definition : goal.invariant-loop-definition
 invariant-loop-definition l =
     map (λ types. map (λ t. option_map type_ref_view t) types.items) l.all.items
-      ≡ map (variable_types (schema_view l.schema)) (map definition_view (take l.definition-index l.definition-items))
+    ≡ map (variable_types (schema_view l.schema)) (map definition_view (take l.definition-index l.definition-items))

@@ -16,8 +16,8 @@ returns-in_err-one c =
     let l = c.loop-alloc in
     let p = err_from_is_err_and c.from_residual.result c.from_residual.ensures.1 in
     rw (p.1, p.2)
-      (stopped (law_directive c.args.constant c.args.depth) directive_takes (is_at (ahead.Punct At)) (map directive_view l.found.items)
-         l.rest.now _ l.invariant (sym c.is_at.ensures ∙ c.loop-alloc-test.true) c.in_err-one.field-0.0 c.in_err-one.ensures)
+    (stopped (law_directive c.args.constant c.args.depth) directive_takes (is_at (ahead.Punct At)) (map directive_view l.found.items)
+    l.rest.now _ l.invariant (sym c.is_at.ensures ∙ c.loop-alloc-test.true) c.in_err-one.field-0.0 c.in_err-one.ensures)
 
 pub loop-alloc-smaller : goal.loop-alloc-smaller
 loop-alloc-smaller c = item_takes (law_directive c.args.constant c.args.depth) directive_takes c.loop-alloc.rest.now _ _ c.in_ok-one.ensures
@@ -26,13 +26,13 @@ pub loop-alloc-preserved : goal.loop-alloc-preserved
 loop-alloc-preserved c =
     let l = c.loop-alloc in
     let e : map directive_view c.push.new.self.items ≡ map directive_view l.found.items ++ directive_view c.in_ok-one.one ∷ [] =
-        rw c.in_ok-push.ensures.items (map_push _ l.found.items c.in_ok-one.one) in
+    rw c.in_ok-push.ensures.items (map_push _ l.found.items c.in_ok-one.one) in
     rw e
-      (parsed_more (law_directive c.args.constant c.args.depth) directive_takes (is_at (ahead.Punct At)) (map directive_view l.found.items)
-         l.rest.now _ l.invariant (sym c.is_at.ensures ∙ c.loop-alloc-test.true) _ _ c.in_ok-one.ensures)
+    (parsed_more (law_directive c.args.constant c.args.depth) directive_takes (is_at (ahead.Punct At)) (map directive_view l.found.items)
+    l.rest.now _ l.invariant (sym c.is_at.ensures ∙ c.loop-alloc-test.true) _ _ c.in_ok-one.ensures)
 
 pub returns : goal.returns
 returns c =
     let l = c.loop-alloc in
     finished (law_directive c.args.constant c.args.depth) directive_takes (is_at (ahead.Punct At)) (map directive_view l.found.items)
-      l.rest.now _ l.invariant (sym c.is_at.ensures ∙ c.loop-alloc-test.false)
+    l.rest.now _ l.invariant (sym c.is_at.ensures ∙ c.loop-alloc-test.false)

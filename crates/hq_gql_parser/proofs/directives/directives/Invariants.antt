@@ -11,7 +11,7 @@ use Rattle.hq_gql_parser.proofs.directives.directives.Given as goal
 abbrev pub invariant-loop-alloc : goal.invariant-loop-alloc
 invariant-loop-alloc l =
     IsParsed (is_at (ahead.Punct At)) (directive_at l.constant l.depth) (map directive_view l.found.items) l.rest
-      (all (is_at (ahead.Punct At)) (directive_at l.constant l.depth) l.tokens)
+    (all (is_at (ahead.Punct At)) (directive_at l.constant l.depth) l.tokens)
 
 abbrev pub decreases-loop-alloc : goal.decreases-loop-alloc
 decreases-loop-alloc l = length l.rest

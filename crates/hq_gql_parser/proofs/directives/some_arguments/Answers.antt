@@ -21,9 +21,9 @@ returns-in_err-one c =
     let l = c.loop-alloc in
     let p = err_from_is_err_and c.from_residual-in_err-one.result c.from_residual-in_err-one.ensures.1 in
     rw (p.1, p.2)
-      (stopped (law_argument c.args.constant c.args.depth) name_takes (until_punct CloseParenthesis) (map argument_view l.found.items)
-         l.rest.now _ l.invariant (goes_on (ahead.Punct CloseParenthesis) l.rest.now c.is_at.result c.is_at.ensures c.loop-alloc-test.true)
-         c.in_err-one.field-0.0 c.in_err-one.ensures)
+    (stopped (law_argument c.args.constant c.args.depth) name_takes (until_punct CloseParenthesis) (map argument_view l.found.items)
+    l.rest.now _ l.invariant (goes_on (ahead.Punct CloseParenthesis) l.rest.now c.is_at.result c.is_at.ensures c.loop-alloc-test.true)
+    c.in_err-one.field-0.0 c.in_err-one.ensures)
 
 pub loop-alloc-smaller : goal.loop-alloc-smaller
 loop-alloc-smaller c = item_takes (law_argument c.args.constant c.args.depth) name_takes c.loop-alloc.rest.now _ _ c.in_ok-one.ensures
@@ -32,14 +32,14 @@ pub loop-alloc-preserved : goal.loop-alloc-preserved
 loop-alloc-preserved c =
     let l = c.loop-alloc in
     let e : map argument_view c.push-in-loop-alloc.new.self.items ≡ map argument_view l.found.items ++ argument_view c.in_ok-one.one ∷ [] =
-        rw c.in_ok-push-2.ensures.items (map_push _ l.found.items c.in_ok-one.one) in
+    rw c.in_ok-push-2.ensures.items (map_push _ l.found.items c.in_ok-one.one) in
     rw e
-      (parsed_more (law_argument c.args.constant c.args.depth) name_takes (until_punct CloseParenthesis) (map argument_view l.found.items)
-         l.rest.now _ l.invariant (goes_on (ahead.Punct CloseParenthesis) l.rest.now c.is_at.result c.is_at.ensures c.loop-alloc-test.true)
-         _ _ c.in_ok-one.ensures)
+    (parsed_more (law_argument c.args.constant c.args.depth) name_takes (until_punct CloseParenthesis) (map argument_view l.found.items)
+    l.rest.now _ l.invariant (goes_on (ahead.Punct CloseParenthesis) l.rest.now c.is_at.result c.is_at.ensures c.loop-alloc-test.true)
+    _ _ c.in_ok-one.ensures)
 
 pub returns : goal.returns
 returns c =
     let l = c.loop-alloc in
     finished (law_argument c.args.constant c.args.depth) name_takes (until_punct CloseParenthesis) (map argument_view l.found.items)
-      l.rest.now _ l.invariant (stands (ahead.Punct CloseParenthesis) l.rest.now c.is_at.result c.is_at.ensures c.loop-alloc-test.false)
+    l.rest.now _ l.invariant (stands (ahead.Punct CloseParenthesis) l.rest.now c.is_at.result c.is_at.ensures c.loop-alloc-test.false)

@@ -26,9 +26,9 @@ some_selections-returns-in_err-one t c =
     let l = c.loop-alloc in
     let p = err_from_is_err_and c.from_residual-in_err-one.result c.from_residual-in_err-one.ensures.1 in
     rw (p.1, p.2)
-      (stopped (law_selection_at c.args.depth) selection_takes (until_punct CloseBrace) (map selection_view l.found.items) l.rest.now _
-         l.invariant (goes_on (ahead.Punct CloseBrace) l.rest.now c.is_at.result c.is_at.ensures c.loop-alloc-test.true)
-         c.in_err-one.field-0.0 c.in_err-one.ensures)
+    (stopped (law_selection_at c.args.depth) selection_takes (until_punct CloseBrace) (map selection_view l.found.items) l.rest.now _
+    l.invariant (goes_on (ahead.Punct CloseBrace) l.rest.now c.is_at.result c.is_at.ensures c.loop-alloc-test.true)
+    c.in_err-one.field-0.0 c.in_err-one.ensures)
 
 pub some_selections-loop-alloc-smaller : goal.some_selections-loop-alloc-smaller
 some_selections-loop-alloc-smaller t c = item_takes (law_selection_at c.args.depth) selection_takes c.loop-alloc.rest.now _ _ c.in_ok-one.ensures
@@ -37,17 +37,17 @@ pub some_selections-loop-alloc-preserved : goal.some_selections-loop-alloc-prese
 some_selections-loop-alloc-preserved t c =
     let l = c.loop-alloc in
     let e : map selection_view c.push-in-loop-alloc.new.self.items ≡ map selection_view l.found.items ++ selection_view c.in_ok-one.one ∷ [] =
-        rw c.in_ok-push-2.ensures.items (map_push _ l.found.items c.in_ok-one.one) in
+    rw c.in_ok-push-2.ensures.items (map_push _ l.found.items c.in_ok-one.one) in
     rw e
-      (parsed_more (law_selection_at c.args.depth) selection_takes (until_punct CloseBrace) (map selection_view l.found.items) l.rest.now _
-         l.invariant (goes_on (ahead.Punct CloseBrace) l.rest.now c.is_at.result c.is_at.ensures c.loop-alloc-test.true) _ _
-         c.in_ok-one.ensures)
+    (parsed_more (law_selection_at c.args.depth) selection_takes (until_punct CloseBrace) (map selection_view l.found.items) l.rest.now _
+    l.invariant (goes_on (ahead.Punct CloseBrace) l.rest.now c.is_at.result c.is_at.ensures c.loop-alloc-test.true) _ _
+    c.in_ok-one.ensures)
 
 pub some_selections-returns : goal.some_selections-returns
 some_selections-returns t c =
     let l = c.loop-alloc in
     finished (law_selection_at c.args.depth) selection_takes (until_punct CloseBrace) (map selection_view l.found.items) l.rest.now _
-      l.invariant (stands (ahead.Punct CloseBrace) l.rest.now c.is_at.result c.is_at.ensures c.loop-alloc-test.false)
+    l.invariant (stands (ahead.Punct CloseBrace) l.rest.now c.is_at.result c.is_at.ensures c.loop-alloc-test.false)
 
 pub set-returns-then-depth-eq0 : goal.set-returns-then-depth-eq0
 set-returns-then-depth-eq0 t c = inr (set_none c.args.depth c.args.tokens.now c.if-depth-eq0.true ∙ ap (λ s. Err s) (sym c.too_deep_or_unexpected.ensures))

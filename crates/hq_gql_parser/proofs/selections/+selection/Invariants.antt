@@ -33,7 +33,7 @@ decreases-opened_set l = 8 * l.depth + 6
 abbrev pub invariant-some_selections-loop-alloc : goal.invariant-some_selections-loop-alloc
 invariant-some_selections-loop-alloc l =
     IsParsed (until_punct CloseBrace) (selection_at l.depth) (map selection_view l.found.items) l.rest
-      (some (until_punct CloseBrace) (selection_at l.depth) l.tokens)
+    (some (until_punct CloseBrace) (selection_at l.depth) l.tokens)
 
 abbrev pub decreases-some_selections-loop-alloc : goal.decreases-some_selections-loop-alloc
 decreases-some_selections-loop-alloc l = length l.rest

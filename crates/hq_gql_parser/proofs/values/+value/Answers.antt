@@ -34,9 +34,9 @@ elements-returns-in_err-one t c =
     let l = c.loop-alloc in
     let p = err_from_is_err_and c.from_residual.result c.from_residual.ensures.1 in
     rw (p.1, p.2)
-      (stopped (law_value c.args.constant c.args.depth) value_takes (until_punct CloseBracket) (map placed_view l.found.items) l.rest.now _
-         l.invariant (goes_on (Punct CloseBracket) l.rest.now c.is_at.result c.is_at.ensures c.loop-alloc-test.true) c.in_err-one.field-0.0
-         c.in_err-one.ensures)
+    (stopped (law_value c.args.constant c.args.depth) value_takes (until_punct CloseBracket) (map placed_view l.found.items) l.rest.now _
+    l.invariant (goes_on (Punct CloseBracket) l.rest.now c.is_at.result c.is_at.ensures c.loop-alloc-test.true) c.in_err-one.field-0.0
+    c.in_err-one.ensures)
 
 pub elements-loop-alloc-smaller : goal.elements-loop-alloc-smaller
 elements-loop-alloc-smaller t c =
@@ -47,24 +47,24 @@ elements-loop-alloc-preserved t c =
     let l = c.loop-alloc in
     let e : map placed_view c.push.new.self.items ≡ map placed_view l.found.items ++ placed_view c.in_ok-one.one ∷ [] = rw c.in_ok-push.ensures.items (map_push _ l.found.items c.in_ok-one.one) in
     rw e
-      (parsed_more (law_value c.args.constant c.args.depth) value_takes (until_punct CloseBracket) (map placed_view l.found.items)
-         l.rest.now _ l.invariant (goes_on (Punct CloseBracket) l.rest.now c.is_at.result c.is_at.ensures c.loop-alloc-test.true) _ _
-         c.in_ok-one.ensures)
+    (parsed_more (law_value c.args.constant c.args.depth) value_takes (until_punct CloseBracket) (map placed_view l.found.items)
+    l.rest.now _ l.invariant (goes_on (Punct CloseBracket) l.rest.now c.is_at.result c.is_at.ensures c.loop-alloc-test.true) _ _
+    c.in_ok-one.ensures)
 
 pub elements-returns : goal.elements-returns
 elements-returns t c =
     let l = c.loop-alloc in
     finished (law_value c.args.constant c.args.depth) value_takes (until_punct CloseBracket) (map placed_view l.found.items) l.rest.now _
-      l.invariant (stands (Punct CloseBracket) l.rest.now c.is_at.result c.is_at.ensures c.loop-alloc-test.false)
+    l.invariant (stands (Punct CloseBracket) l.rest.now c.is_at.result c.is_at.ensures c.loop-alloc-test.false)
 
 pub members-returns-in_err-one : goal.members-returns-in_err-one
 members-returns-in_err-one t c =
     let l = c.loop-alloc in
     let p = err_from_is_err_and c.from_residual.result c.from_residual.ensures.1 in
     rw (p.1, p.2)
-      (stopped (law_argument c.args.constant c.args.depth) name_takes (until_punct CloseBrace) (map argument_view l.found.items) l.rest.now
-         _ l.invariant (goes_on (Punct CloseBrace) l.rest.now c.is_at.result c.is_at.ensures c.loop-alloc-test.true) c.in_err-one.field-0.0
-         c.in_err-one.ensures)
+    (stopped (law_argument c.args.constant c.args.depth) name_takes (until_punct CloseBrace) (map argument_view l.found.items) l.rest.now
+    _ l.invariant (goes_on (Punct CloseBrace) l.rest.now c.is_at.result c.is_at.ensures c.loop-alloc-test.true) c.in_err-one.field-0.0
+    c.in_err-one.ensures)
 
 pub members-loop-alloc-smaller : goal.members-loop-alloc-smaller
 members-loop-alloc-smaller t c =
@@ -74,14 +74,14 @@ pub members-loop-alloc-preserved : goal.members-loop-alloc-preserved
 members-loop-alloc-preserved t c =
     let l = c.loop-alloc in
     let e : map argument_view c.push.new.self.items ≡ map argument_view l.found.items ++ argument_view c.in_ok-one.one ∷ [] =
-        rw c.in_ok-push.ensures.items (map_push _ l.found.items c.in_ok-one.one) in
+    rw c.in_ok-push.ensures.items (map_push _ l.found.items c.in_ok-one.one) in
     rw e
-      (parsed_more (law_argument c.args.constant c.args.depth) name_takes (until_punct CloseBrace) (map argument_view l.found.items)
-         l.rest.now _ l.invariant (goes_on (Punct CloseBrace) l.rest.now c.is_at.result c.is_at.ensures c.loop-alloc-test.true) _ _
-         c.in_ok-one.ensures)
+    (parsed_more (law_argument c.args.constant c.args.depth) name_takes (until_punct CloseBrace) (map argument_view l.found.items)
+    l.rest.now _ l.invariant (goes_on (Punct CloseBrace) l.rest.now c.is_at.result c.is_at.ensures c.loop-alloc-test.true) _ _
+    c.in_ok-one.ensures)
 
 pub members-returns : goal.members-returns
 members-returns t c =
     let l = c.loop-alloc in
     finished (law_argument c.args.constant c.args.depth) name_takes (until_punct CloseBrace) (map argument_view l.found.items) l.rest.now _
-      l.invariant (stands (Punct CloseBrace) l.rest.now c.is_at.result c.is_at.ensures c.loop-alloc-test.false)
+    l.invariant (stands (Punct CloseBrace) l.rest.now c.is_at.result c.is_at.ensures c.loop-alloc-test.false)

@@ -9,7 +9,7 @@ use Rattle.hq_gql_parser.proofs.variables.some_variables.Given as goal
 abbrev pub invariant-loop-alloc : goal.invariant-loop-alloc
 invariant-loop-alloc l =
     IsParsed (until_punct CloseParenthesis) (variable_definition_at l.depth) (map var_def_view l.found.items) l.rest
-      (some (until_punct CloseParenthesis) (variable_definition_at l.depth) l.tokens)
+    (some (until_punct CloseParenthesis) (variable_definition_at l.depth) l.tokens)
 
 abbrev pub decreases-loop-alloc : goal.decreases-loop-alloc
 decreases-loop-alloc l = length l.rest

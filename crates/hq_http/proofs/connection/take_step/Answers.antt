@@ -6,13 +6,13 @@ use Rattle.hq_http.proofs.connection.take_step.Goals as goal
 pub returns-in-Whole-clause-stepped : goal.returns-in-Whole-clause-stepped
 returns-in-Whole-clause-stepped g c =
     stepped_whole _ _ _ c.args.done _ (g.L.Link.left c.await_next.new.link) _ _ c.await_next.new.pending _ _
-      (g.L.Link.written c.await_next.new.link) _ c.await_next.new.headers c.in-Whole.request c.serve_whole.result
+    (g.L.Link.written c.await_next.new.link) _ c.await_next.new.headers c.in-Whole.request c.serve_whole.result
     c.in-Whole.ensures.awaits c.in-Whole.ensures.written c.serve_whole.ensures.left c.serve_whole.ensures.served
 
 pub returns-in-Refused-clause-stepped : goal.returns-in-Refused-clause-stepped
 returns-in-Refused-clause-stepped g c =
     stepped_refused _ _ _ c.args.done _ (g.L.Link.left c.await_next.new.link) _ _ _ _ (g.L.Link.written c.await_next.new.link) _
-      c.await_next.new.headers c.in-Refused.fault c.in-Refused.is_head c.refuse.result
+    c.await_next.new.headers c.in-Refused.fault c.in-Refused.is_head c.refuse.result
     c.in-Refused.ensures.awaits c.in-Refused.ensures.written c.refuse.ensures.left c.refuse.ensures.refuses
 
 pub returns-in-Over-clause-stepped : goal.returns-in-Over-clause-stepped

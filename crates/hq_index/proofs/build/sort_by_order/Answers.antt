@@ -8,4 +8,4 @@ use Rattle.hq_index.proofs.build.sort_by_order.Goals as goal
 pub returns : goal.returns
 returns c =
     sorted_by_closure keys_cmp_total (key_at c.args.columns.now (rows_in c.args.grid.now)) c.args.rows.now.items _
-      c.in_ok-sort_by.ensures.sorted c.in_ok-sort_by.ensures.stable (λ a r f' k. search rules)
+    c.in_ok-sort_by.ensures.sorted c.in_ok-sort_by.ensures.stable (λ a r f' k. search rules)

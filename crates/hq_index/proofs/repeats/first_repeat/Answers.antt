@@ -11,8 +11,8 @@ loop-at-preserved c =
     let same = same_key c.args.columns.now (rows_in c.args.grid.now) in
     let is : at ≡ suc (at - 1) = omega (arith, c.loop-at.auto.at) in
     rw c.with_pair-found.ensures
-      (pair_more same sorted at (at - 1) c.loop-at.found (record { row = get_or sorted at 0; earlier = get_or sorted (at - 1) 0 }) is
-         c.loop-at-test.true refl refl c.loop-at.invariant)
+    (pair_more same sorted at (at - 1) c.loop-at.found (record { row = get_or sorted at 0; earlier = get_or sorted (at - 1) 0 }) is
+    c.loop-at-test.true refl refl c.loop-at.invariant)
 
 pub returns : goal.returns
 returns c = tells_repeat c.args.columns.now (rows_in c.args.grid.now) c.args.sorted.now c.loop-at.at c.loop-at.found c.requires c.loop-at-test.false c.loop-at.invariant

@@ -8,6 +8,6 @@ pub returns : goal.returns
 returns c =
     let numbers = rw c.in-Some.is at c.in_ok-all.ensures in
     c.in_ok-rows_of.ensures
-      ∙
-        (ap (map row_of) (c.deref.ensures.value ∙ c.in_ok-sort_numbered.ensures)
-           ∙ sorted_numbers c.args.column (rows_in c.args.grid.now) c.args.rows.now c.in-Some.all.items numbers)
+    ∙
+    (ap (map row_of) (c.deref.ensures.value ∙ c.in_ok-sort_numbered.ensures)
+    ∙ sorted_numbers c.args.column (rows_in c.args.grid.now) c.args.rows.now c.in-Some.all.items numbers)

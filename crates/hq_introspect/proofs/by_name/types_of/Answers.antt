@@ -7,6 +7,6 @@ use Rattle.hq_introspect.proofs.by_name.types_of.Goals as goal
 pub loop-entry-preserved : goal.loop-entry-preserved
 loop-entry-preserved c =
     values-more (λ t. type_view t.now) (map (λ e. type_view e.def.now)) (λ e. type_view e.def.now)
-      (λ ys y. map-append (λ e. type_view e.def.now) ys (y ∷ [])) c.args.entries.now c.loop-entry.entry-index c.entry-item.result
-      c.loop-entry.types.items c.push.new.self.items _ c.loop-entry.invariant c.loop-entry-test.true
-      (ap (λ e. type_view e.def.now) c.entry-item.is) c.in_ok-push.ensures.items
+    (λ ys y. map-append (λ e. type_view e.def.now) ys (y ∷ [])) c.args.entries.now c.loop-entry.entry-index c.entry-item.result
+    c.loop-entry.types.items c.push.new.self.items _ c.loop-entry.invariant c.loop-entry-test.true
+    (ap (λ e. type_view e.def.now) c.entry-item.is) c.in_ok-push.ensures.items

@@ -7,5 +7,5 @@ use Rattle.hq_introspect.proofs.root.schema_object.Goals as goal
 pub returns : goal.returns
 returns c =
     object_seen c.loop-keyed.members c.args.fields.now.items c.deref-keyed-items.result.now (schema_view c.args.schema.now)
-      (schema_node (map (λ t. type_view t.now) c.args.types.now)) c.loop-keyed.keyed-index
+    (schema_node (map (λ t. type_view t.now) c.args.types.now)) c.loop-keyed.keyed-index
     c.deref-keyed-items.ensures.value c.loop-keyed-test.false c.loop-keyed.invariant

@@ -8,5 +8,5 @@ use Rattle.hq_introspect.proofs.types.directive_nodes.Goals as goal
 pub loop-directive-preserved : goal.loop-directive-preserved
 loop-directive-preserved c =
     values-more node_view (map directive_node) directive_node (λ ys y. map-append directive_node ys (y ∷ [])) c.args.directives.now
-      c.loop-directive.directive-index _ c.loop-directive.nodes.items c.push.new.self.items _ c.loop-directive.invariant
-      c.loop-directive-test.true refl c.in_ok-push.ensures.items
+    c.loop-directive.directive-index _ c.loop-directive.nodes.items c.push.new.self.items _ c.loop-directive.invariant
+    c.loop-directive-test.true refl c.in_ok-push.ensures.items

@@ -17,11 +17,11 @@ loop-table-preserved g c =
     record {
       told =
           told-step before now (λ folder t. rows_in folder c.args.dir.now t) tables at table c.loop-table.all c.push.new.self rows
-            c.loop-table-test.true c.table-item.is c.loop-table.invariant.folder c.in_ok-push.ensures.ok c.loop-table.invariant.told
-            c.in_ok-load_rows.ensures.told;
+          c.loop-table-test.true c.table-item.is c.loop-table.invariant.folder c.in_ok-push.ensures.ok c.loop-table.invariant.told
+          c.in_ok-load_rows.ensures.told;
       fits =
           is_database-taken tables at c.loop-table.all c.push.new.self table rows c.loop-table-test.true c.table-item.is
-            c.in_ok-push.ensures.ok c.loop-table.invariant.fits c.in_ok-load_rows.ensures.fits;
+          c.in_ok-push.ensures.ok c.loop-table.invariant.fits c.in_ok-load_rows.ensures.fits;
       folder = search rules;
       later = search rules;
     }

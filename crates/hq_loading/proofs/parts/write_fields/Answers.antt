@@ -11,8 +11,8 @@ returns-in_ok-write_field-in-Two g c =
     let second : List ℕ = phrase_text Space ++ field_text c.in-Two.second in
     rw c.in-Two.is
     (subst
-      (λ (bytes : List ℕ). Wrote (g.K.Sink.written c.args.out.now) (g.K.Sink.written c.write_field-in-Two-2.new.out)
-         (g.K.Sink.faults c.args.out.now) (g.K.Sink.faults c.write_field-in-Two-2.new.out) bytes c.write_field-in-Two-2.result)
+    (λ (bytes : List ℕ). Wrote (g.K.Sink.written c.args.out.now) (g.K.Sink.written c.write_field-in-Two-2.new.out)
+    (g.K.Sink.faults c.args.out.now) (g.K.Sink.faults c.write_field-in-Two-2.new.out) bytes c.write_field-in-Two-2.result)
     (ap (λ (w : List ℕ). first ++ w) (sym (append-nil second)))
     (wrote_both (g.K.Sink.written c.args.out.now) (g.K.Sink.written c.write_field-in-Two.new.out) (g.K.Sink.written c.write_field-in-Two-2.new.out) _ _ _ first second c.write_field-in-Two-2.result
     c.in_ok-write_field-in-Two.ensures.ok c.in_ok-write_field-in-Two.ensures.cause.later c.write_field-in-Two-2.ensures))

@@ -12,5 +12,5 @@ front_and_rest xs left front n a l e =
 pub returns-clause-taken : goal.returns-clause-taken
 returns-clause-taken c =
     rw (← c.split_at.ensures.back)
-      (front_and_rest c.args.input.now c.split_at.result.1.now (take c.copy_front-count.result c.copy_front-count.new.buf)
-         c.copy_front-count.result c.args.at.now c.split_at.ensures.back c.copy_front-count.ensures.copied)
+    (front_and_rest c.args.input.now c.split_at.result.1.now (take c.copy_front-count.result c.copy_front-count.new.buf)
+    c.copy_front-count.result c.args.at.now c.split_at.ensures.back c.copy_front-count.ensures.copied)

@@ -8,4 +8,4 @@ use Rattle.hq_meta_names.proofs.check.with_tables.Given as goal
 abbrev pub invariant-loop-place : goal.invariant-loop-place
 invariant-loop-place l =
     with_tables (scope_schema l.scope) (meta_view l.scope.meta.now) l.path l.place l.shared (map tracked_view (drop l.place l.fn.tracked))
-      ≡ with_tables (scope_schema l.scope) (meta_view l.scope.meta.now) l.path 0 l.initial.shared (map tracked_view l.fn.tracked)
+    ≡ with_tables (scope_schema l.scope) (meta_view l.scope.meta.now) l.path 0 l.initial.shared (map tracked_view l.fn.tracked)

@@ -9,10 +9,10 @@ pub returns-in-Some : goal.returns-in-Some
 returns-in-Some c =
     c.all_among.ensures
     ∙ ap (list_all (λ k. list_any (λ d. d == k) c.args.columns.now))
-      (c.as_slice.ensures
-         ∙ sym
-           (key-Some c.args.scope.now.catalog.now.tables (meta_view c.args.scope.now.meta.now) c.args.t c.in-Some.table.now
-              (sym c.in-Some.ensures)))
+    (c.as_slice.ensures
+    ∙ sym
+    (key-Some c.args.scope.now.catalog.now.tables (meta_view c.args.scope.now.meta.now) c.args.t c.in-Some.table.now
+    (sym c.in-Some.ensures)))
 
 pub returns-in-None : goal.returns-in-None
 returns-in-None c =

@@ -9,4 +9,4 @@ use Rattle.hq_meta_names.proofs.shown.some_ordered.Given as goal
 abbrev pub invariant-loop-column : goal.invariant-loop-column
 invariant-loop-column l =
     list_any (λ c. not (is_boolean (column (scope_schema l.scope) l.table c).ty)) (drop l.column-index l.columns)
-      ≡ list_any (λ c. not (is_boolean (column (scope_schema l.scope) l.table c).ty)) l.columns
+    ≡ list_any (λ c. not (is_boolean (column (scope_schema l.scope) l.table c).ty)) l.columns

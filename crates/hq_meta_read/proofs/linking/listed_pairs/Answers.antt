@@ -10,7 +10,7 @@ pub loop-member-preserved : goal.loop-member-preserved
 loop-member-preserved c =
     let m = c.member-item.result in
     each_member-more (pair_at c.args.own.now c.args.remote.now) member_view c.args.path.now c.in_ok-path.path c.args.members.now
-      c.loop-member.member-index m c.loop-member.pairs c.push.new.self c.in_ok-pair_at.field-0 _ c.loop-member.invariant
-      c.loop-member-test.true c.member-item.is
+    c.loop-member.member-index m c.loop-member.pairs c.push.new.self c.in_ok-pair_at.field-0 _ c.loop-member.invariant
+    c.loop-member-test.true c.member-item.is
     (c.in_ok-path.ensures ∙ ap (λ (v : List ℕ × JsonTree). member_path c.args.path.now v.0) (sym (view-Member m)))
     c.in_ok-pair_at.ensures c.in_ok-push.ensures.ok

@@ -9,4 +9,4 @@ use Rattle.hq_meta_read.proofs.linking.listed_pairs.Given as goal
 abbrev pub invariant-loop-member : goal.invariant-loop-member
 invariant-loop-member l =
     each_member (pair_at l.own l.remote) l.path (map member_view l.members)
-      ≡ mapped (λ rest. l.pairs ++ rest) (each_member (pair_at l.own l.remote) l.path (map member_view (drop l.member-index l.members)))
+    ≡ mapped (λ rest. l.pairs ++ rest) (each_member (pair_at l.own l.remote) l.path (map member_view (drop l.member-index l.members)))

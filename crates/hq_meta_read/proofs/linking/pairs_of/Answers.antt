@@ -8,8 +8,8 @@ pub loop-place-preserved : goal.loop-place-preserved
 loop-place-preserved c =
     let remote = c.args.remote.now in
     let there =
-        slice_get_read remote (length remote) c.loop-place.place c.in-Some.remote.now refl
-          (ltb-true c.loop-place.place (length remote) (sym c.in-Some.ensures.lookup.0)) c.in-Some.ensures.lookup.1 in
+    slice_get_read remote (length remote) c.loop-place.place c.in-Some.remote.now refl
+    (ltb-true c.loop-place.place (length remote) (sym c.in-Some.ensures.lookup.0)) c.in-Some.ensures.lookup.1 in
     c.in_ok-push.ensures.ok ∙ ap (λ ps. ps ++ pair c.index-own-place.result c.in-Some.remote.now ∷ []) c.loop-place.invariant
     ∙ sym (pairs_more c.args.own.now remote c.loop-place.place c.index-own-place.result c.in-Some.remote.now c.loop-place-test.true c.index-own-place.is there)
 

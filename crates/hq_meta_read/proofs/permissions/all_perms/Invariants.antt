@@ -14,6 +14,6 @@ invariant-loop-place l =
     record {
       due : each_after (λ before. perms_at l.scope.catalog.now.tables (meta_view l.scope.meta.now)) l.path l.place
           (map (map perm_view) l.all) (zip (drop l.place l.tables) (drop l.place (map json_view l.list)))
-        ≡ each (perms_at l.scope.catalog.now.tables (meta_view l.scope.meta.now)) l.path (zip l.tables (map json_view l.list));
+          ≡ each (perms_at l.scope.catalog.now.tables (meta_view l.scope.meta.now)) l.path (zip l.tables (map json_view l.list));
       sound : AllZip (λ e ps. AllSound (schema_of l.scope.catalog.now.tables (meta_view l.scope.meta.now)) e.0 ps) (zip (take l.place l.tables) (map json_view l.list)) (map (map perm_view) l.all);
     }

@@ -21,8 +21,8 @@ loop-place-preserved c =
     record {
       due =
           each_after-more (perm_at tables m c.args.table) json_view c.args.path.now c.in_ok-path.path c.loop-place.place
-            (map perm_view c.loop-place.perms) (map perm_view c.push.new.self) c.args.list.now c.index-list-place.result
-            (perm_view c.in_ok-perm.perm)
+          (map perm_view c.loop-place.perms) (map perm_view c.push.new.self) c.args.list.now c.index-list-place.result
+          (perm_view c.in_ok-perm.perm)
           c.loop-place-test.true c.index-list-place.is c.in_ok-path.ensures
           (ap (λ before. perm_at tables m c.args.table (map perm_view before) c.in_ok-path.path item) (sym c.as_slice.ensures) ∙ c.in_ok-perm.ensures.due)
           (ap (map perm_view) c.in_ok-push.ensures.ok ∙ map-append perm_view c.loop-place.perms (c.in_ok-perm.perm ∷ []))

@@ -13,6 +13,6 @@ invariant-loop-place l =
     record {
       due : each_after (perm_at l.scope.catalog.now.tables (meta_view l.scope.meta.now) l.table) l.path l.place (map perm_view l.perms)
           (map json_view (drop l.place l.list))
-        ≡ each_after (perm_at l.scope.catalog.now.tables (meta_view l.scope.meta.now) l.table) l.path 0 [] (map json_view l.list);
+          ≡ each_after (perm_at l.scope.catalog.now.tables (meta_view l.scope.meta.now) l.table) l.path 0 [] (map json_view l.list);
       sound : AllSound (schema_of l.scope.catalog.now.tables (meta_view l.scope.meta.now)) l.table (map perm_view l.perms);
     }

@@ -16,6 +16,6 @@ returns-clause-sound c =
       is = rw c.into_inner.ensures c.in_ok-filter.ensures.is;
       shallow =
           rw c.into_inner.ensures
-            (shallow_filter (depth (bexp_view c.in_ok-filter.filter.value)) (nesting (json_view c.in_ok-written.written.now))
-               (nesting object) c.in_ok-filter.ensures.shallow below c.requires);
+          (shallow_filter (depth (bexp_view c.in_ok-filter.filter.value)) (nesting (json_view c.in_ok-written.written.now))
+          (nesting object) c.in_ok-filter.ensures.shallow below c.requires);
     }

@@ -7,7 +7,7 @@ use Rattle.hq_meta_read.proofs.permissions.with_perms.Given as goal
 abbrev pub invariant-tables : goal.invariant-tables
 invariant-tables l =
     map tracked_view l.tracked ++ perms_beside (map tracked_view l.tables.items) (map (map perm_view) l.perms.items)
-      ≡ perms_beside (map tracked_view l.initial.tables.items) (map (map perm_view) l.initial.perms.items)
+    ≡ perms_beside (map tracked_view l.initial.tables.items) (map (map perm_view) l.initial.perms.items)
 
 abbrev pub decreases-tables : goal.decreases-tables
 decreases-tables l = length l.tables.items

@@ -22,8 +22,8 @@ returns-clause-fits c =
     let tables = c.args.catalog.now.tables in
     let due = meta_of tables (json_view c.in_ok-json.json) in
     ok_three c.meta_of.result (λ meta. FitsIf tables (meta_view meta))
-      (λ meta. TablesSound (schema_of tables (meta_view meta)) (meta_view meta).tracked)
-      (λ meta. names_differ (schema_of tables (meta_view meta)) (meta_view meta) ≡ true) (λ meta. fits tables (meta_view meta) ≡ true)
+    (λ meta. TablesSound (schema_of tables (meta_view meta)) (meta_view meta).tracked)
+    (λ meta. names_differ (schema_of tables (meta_view meta)) (meta_view meta) ≡ true) (λ meta. fits tables (meta_view meta) ≡ true)
     (λ meta f s n. f s n)
     (given_ok meta_view Memory due c.meta_of.result (FitsIf tables) c.meta_of.ensures.due (meta_of-FitsIf tables (json_view c.in_ok-json.json) c.args.catalog.now.valid))
     c.meta_of.ensures.sound c.meta_of.ensures.names

@@ -10,5 +10,5 @@ use Rattle.hq_meta_read.proofs.relationships.all_rels.Given as goal
 abbrev pub invariant-loop-place : goal.invariant-loop-place
 invariant-loop-place l =
     each_after (λ before. rels_at l.scope.catalog.now.tables (meta_view l.scope.meta.now)) l.path l.place l.all
-        (zip (drop l.place l.tables) (drop l.place (map json_view l.list)))
-      ≡ each (rels_at l.scope.catalog.now.tables (meta_view l.scope.meta.now)) l.path (zip l.tables (map json_view l.list))
+    (zip (drop l.place l.tables) (drop l.place (map json_view l.list)))
+    ≡ each (rels_at l.scope.catalog.now.tables (meta_view l.scope.meta.now)) l.path (zip l.tables (map json_view l.list))

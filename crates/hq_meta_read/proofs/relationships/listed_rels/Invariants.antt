@@ -9,6 +9,6 @@ use Rattle.hq_meta_read.proofs.relationships.listed_rels.Given as goal
 abbrev pub invariant-loop-place : goal.invariant-loop-place
 invariant-loop-place l =
     each_after (λ before. rel_at l.scope.catalog.now.tables (meta_view l.scope.meta.now) l.table l.many) l.path l.place l.rels
-        (map json_view (drop l.place l.list))
-      ≡ each_after (λ before. rel_at l.scope.catalog.now.tables (meta_view l.scope.meta.now) l.table l.many) l.path 0 l.initial.rels
-        (map json_view l.list)
+    (map json_view (drop l.place l.list))
+    ≡ each_after (λ before. rel_at l.scope.catalog.now.tables (meta_view l.scope.meta.now) l.table l.many) l.path 0 l.initial.rels
+    (map json_view l.list)

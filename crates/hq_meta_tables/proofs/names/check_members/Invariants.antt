@@ -9,4 +9,4 @@ use Rattle.hq_meta_tables.proofs.names.check_members.Given as goal
 abbrev pub invariant-loop-member : goal.invariant-loop-member
 invariant-loop-member l =
     all_pass (λ m. member_due (column_due l.which l.columns) l.path m.0 (unless_null m.1)) (map member_view (drop l.member-index l.members))
-      ≡ all_pass (λ m. member_due (column_due l.which l.columns) l.path m.0 (unless_null m.1)) (map member_view l.members)
+    ≡ all_pass (λ m. member_due (column_due l.which l.columns) l.path m.0 (unless_null m.1)) (map member_view l.members)

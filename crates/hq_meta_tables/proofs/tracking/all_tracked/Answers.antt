@@ -10,7 +10,7 @@ pub loop-place-preserved : goal.loop-place-preserved
 loop-place-preserved c =
     let grows = ap (map tracked_view) c.in_ok-push.ensures.ok ∙ map-append tracked_view c.loop-place.all (c.in_ok-tracked.tracked ∷ []) in
     each_after-more json_view (tracked_at c.args.catalog.now.tables) c.args.path.now c.in_ok-path.path c.args.list.now c.loop-place.place
-      c.index-list-place.result (map tracked_view c.loop-place.all) (map tracked_view c.push.new.self)
-      (tracked_view c.in_ok-tracked.tracked) _ c.loop-place.invariant c.loop-place-test.true c.index-list-place.is c.in_ok-path.ensures
+    c.index-list-place.result (map tracked_view c.loop-place.all) (map tracked_view c.push.new.self)
+    (tracked_view c.in_ok-tracked.tracked) _ c.loop-place.invariant c.loop-place-test.true c.index-list-place.is c.in_ok-path.ensures
     (ap (λ before. tracked_at c.args.catalog.now.tables (map tracked_view before) c.in_ok-path.path (json_view c.index-list-place.result)) (sym c.as_slice.ensures) ∙ c.in_ok-tracked.ensures)
     grows

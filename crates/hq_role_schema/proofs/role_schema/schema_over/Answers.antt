@@ -9,8 +9,8 @@ use Rattle.hq_role_schema.proofs.role_schema.schema_over.Goals as goal
 
 -- a schema by its parts
 schema_of_parts : (ps : List PlacedTable) (ts : List TypeTree) (q : ℕ) (n : FieldTree) (fs : List FieldTree) (cs : List ArgTree)
-  → ts ≡ all_types ps → q ≡ fixed_place QueryRoot → fs ≡ schema_field ∷ type_field ∷ [] → cs ≡ condition ∷ [] → n ≡ type_name_field
-  → record { types = ts; query = q; type_name = n; introspection = fs; conditions = cs } ≡ schema_over ps
+    → ts ≡ all_types ps → q ≡ fixed_place QueryRoot → fs ≡ schema_field ∷ type_field ∷ [] → cs ≡ condition ∷ [] → n ≡ type_name_field
+    → record { types = ts; query = q; type_name = n; introspection = fs; conditions = cs } ≡ schema_over ps
 schema_of_parts ps ts q n fs cs types query introspection conditions type_name = cc
 
 pub returns : goal.returns

@@ -10,7 +10,7 @@ use Rattle.hq_rules_overlap.proofs.conflicts.conflict_among.Goals as goal
 pub conflict_of-requires-clause-second : goal.conflict_of-requires-clause-second
 conflict_of-requires-clause-second c =
     contained_item (field_in c.args.arena.now) c.args.entries.now (fields_at (arena_view c.args.arena.now) c.args.number)
-      c.loop-entry.entry-index c.entry-item.result c.requires.entries c.loop-entry-test.true c.entry-item.is
+    c.loop-entry.entry-index c.entry-item.result c.requires.entries c.loop-entry-test.true c.entry-item.is
 
 pub loop-entry-preserved : goal.loop-entry-preserved
 loop-entry-preserved c =

@@ -8,4 +8,4 @@ loop-entry-preserved c =
     let more = c.args.more.now in
     let old = c.loop-entry.entries.items in
     grown_by old c.push.new.self.items _ (drop (at + 1) more) _ c.in_ok-push.ensures.items
-      (ap (λ xs. old ++ xs) (sym (drop_first more at c.entry-item.result c.loop-entry-test.true c.entry-item.is)) ∙ c.loop-entry.invariant)
+    (ap (λ xs. old ++ xs) (sym (drop_first more at c.entry-item.result c.loop-entry-test.true c.entry-item.is)) ∙ c.loop-entry.invariant)

@@ -27,5 +27,5 @@ loop-definition-preserved c =
       own = roots_more s places first n m x more made.length own _ _ made.roots (ap (λ (ds : List Definition). own ++ roots s places (first + n) (map definition_view ds)) (sym behind) ∙ loop.own);
       inner =
           below_roots_more s places first n m x more made.length inner _ _ made.sets
-            (ap (λ (ds : List Definition). inner ++ below_roots s places (first + n) (map definition_view ds)) (sym behind) ∙ loop.inner);
+          (ap (λ (ds : List Definition). inner ++ below_roots s places (first + n) (map definition_view ds)) (sym behind) ∙ loop.inner);
     }

@@ -29,16 +29,16 @@ add_selections-loop-selection-preserved t c =
       as_long = count_more s places first n m x made.length more _ (ap (λ (xs : List Selection). n + field_count (selections_of (map selection_view xs))) (sym behind) ∙ loop.as_long);
       own =
           fields_more s places first n m x made.length parent more fields _ _ made.fields
-            (ap (λ (xs : List Selection). fields ++ own_fields s (first + n) parent (selections_of (map selection_view xs))) (sym behind)
-               ∙ loop.own);
+          (ap (λ (xs : List Selection). fields ++ own_fields s (first + n) parent (selections_of (map selection_view xs))) (sym behind)
+          ∙ loop.own);
       spread =
           grown_by spreads _ (own_spreads_of places x) (own_spreads places more) _ made.spreads
-            (ap (λ (xs : List Selection). spreads ++ own_spreads places (selections_of (map selection_view xs))) (sym behind) ∙ loop.spread);
+          (ap (λ (xs : List Selection). spreads ++ own_spreads places (selections_of (map selection_view xs))) (sym behind) ∙ loop.spread);
       inner =
           sets_more s places first n m x made.length parent more sets _ _ made.sets
-            (ap (λ (xs : List Selection). sets ++ inner_sets s places (first + n) parent (selections_of (map selection_view xs)))
-                 (sym behind)
-               ∙ loop.inner);
+          (ap (λ (xs : List Selection). sets ++ inner_sets s places (first + n) parent (selections_of (map selection_view xs)))
+          (sym behind)
+          ∙ loop.inner);
     }
 
 pub add_selections-returns-clause-length : goal.add_selections-returns-clause-length

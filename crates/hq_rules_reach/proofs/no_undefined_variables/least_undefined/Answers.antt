@@ -11,5 +11,5 @@ loop-found-preserved c =
     let place = undefined_use (numbered_place c.args.places.now) in
     let x = c.found-item.result in
     least_so_far (λ (us : List Use). least_of place (map number_view us)) c.args.uses.now c.loop-found.found-index x x c.loop-found.least
-      (place (number_view x)) _ _ c.loop-found.invariant c.loop-found-test.true c.found-item.is refl
+    (place (number_view x)) _ _ c.loop-found.invariant c.loop-found-test.true c.found-item.is refl
     (c.earlier-least.ensures ∙ ap (earlier c.loop-found.least) c.undefined_use.ensures)

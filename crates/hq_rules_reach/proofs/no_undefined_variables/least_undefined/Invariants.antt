@@ -8,4 +8,4 @@ use Rattle.hq_rules_reach.proofs.no_undefined_variables.least_undefined.Given as
 abbrev pub invariant-loop-found : goal.invariant-loop-found
 invariant-loop-found l =
     earlier l.least (least_of (undefined_use (numbered_place l.places)) (map number_view (drop l.found-index l.uses)))
-      ≡ least_of (undefined_use (numbered_place l.places)) (map number_view l.uses)
+    ≡ least_of (undefined_use (numbered_place l.places)) (map number_view l.uses)

@@ -12,6 +12,6 @@ loop-definition-preserved c =
     let place = unused_by (has_name c.args.names.now) in
     let x = c.definition-item.result in
     least_so_far (λ (ds : List Definition). least_of place (map definition_view ds)) c.deref-definition-items.result.now
-      c.loop-definition.definition-index x x c.loop-definition.least (place (definition_view x)) _ _ c.loop-definition.invariant
-      c.loop-definition-test.true c.definition-item.is refl
+    c.loop-definition.definition-index x x c.loop-definition.least (place (definition_view x)) _ _ c.loop-definition.invariant
+    c.loop-definition-test.true c.definition-item.is refl
     (c.earlier-least.ensures ∙ ap (earlier c.loop-definition.least) c.unused_fragment.ensures)

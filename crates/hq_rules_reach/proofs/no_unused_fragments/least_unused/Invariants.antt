@@ -9,4 +9,4 @@ use Rattle.hq_rules_reach.proofs.no_unused_fragments.least_unused.Given as goal
 abbrev pub invariant-loop-definition : goal.invariant-loop-definition
 invariant-loop-definition l =
     earlier l.least (least_of (unused_by (has_name l.names)) (map definition_view (drop l.definition-index l.definition-items)))
-      ≡ least_of (unused_by (has_name l.names)) (map definition_view l.definition-items)
+    ≡ least_of (unused_by (has_name l.names)) (map definition_view l.definition-items)

@@ -10,5 +10,5 @@ use Rattle.hq_rules_reach.proofs.no_unused_fragments.spread_names.Goals as goal
 pub loop-part-preserved : goal.loop-part-preserved
 loop-part-preserved c q =
     any_map_take-more (λ p. list_any (spreads q) p.nodes) part_view c.args.parts.now c.loop-part.part-index c.part-item.result
-      c.part-item.result _ _ c.loop-part-test.true c.part-item.is (c.loop-part.invariant q)
+    c.part-item.result _ _ c.loop-part-test.true c.part-item.is (c.loop-part.invariant q)
     (c.in_ok-note_spreads.ensures q ∙ ap (λ nodes. list_any (spreads q) (map node_view nodes) || has_name c.loop-part.names q) c.deref.ensures.value)

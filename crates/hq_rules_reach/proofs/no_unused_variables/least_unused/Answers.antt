@@ -12,5 +12,5 @@ loop-var_def-preserved c =
     let place = unused_by (is_marked (get_name c.args.numbers.now) c.args.marks.now) in
     let x = c.var_def-item.result in
     least_so_far (λ (vs : List VarDef). least_of place (map var_def_view vs)) c.args.vars.now c.loop-var_def.var_def-index x x
-      c.loop-var_def.least (place (var_def_view x)) _ _ c.loop-var_def.invariant c.loop-var_def-test.true c.var_def-item.is refl
+    c.loop-var_def.least (place (var_def_view x)) _ _ c.loop-var_def.invariant c.loop-var_def-test.true c.var_def-item.is refl
     (c.earlier-least.ensures ∙ ap (earlier c.loop-var_def.least) c.unused_by.ensures)

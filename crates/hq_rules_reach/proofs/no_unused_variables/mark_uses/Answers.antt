@@ -12,7 +12,7 @@ loop-found-preserved c = record {
   as_long = c.mark.ensures.length ∙ c.loop-found.invariant.as_long;
   marked = λ n below.
       any_or_take-more (λ u. u.name == n) number_view c.args.uses.now c.loop-found.found-index c.found-item.result c.found-item.result _ _ _
-        c.loop-found-test.true c.found-item.is (c.loop-found.invariant.marked n below)
+      c.loop-found-test.true c.found-item.is (c.loop-found.invariant.marked n below)
       (c.mark.ensures.marked n (omega (arith, c.loop-found.invariant.as_long)));
 }
 
@@ -23,6 +23,6 @@ pub returns-clause-marked : goal.returns-clause-marked
 returns-clause-marked c = λ n below.
     let all : take c.loop-found.found-index c.args.uses.now ≡ c.args.uses.now = take_all _ _ (omega arith) in
     subst
-      (λ (us : List Use). get_or c.loop-found.marks.items n false
-         ≡ (list_any (λ u. u.name == n) (map number_view us) || get_or c.args.marks.now.items n false))
-      all (c.loop-found.invariant.marked n below)
+    (λ (us : List Use). get_or c.loop-found.marks.items n false
+    ≡ (list_any (λ u. u.name == n) (map number_view us) || get_or c.args.marks.now.items n false))
+    all (c.loop-found.invariant.marked n below)

@@ -8,6 +8,6 @@ abbrev pub invariant-loop-found : goal.invariant-loop-found
 invariant-loop-found l = record {
   as_long : length l.marks.items ≡ length l.initial.marks.items;
   marked : (n : ℕ) → n < length l.initial.marks.items
-    → get_or l.marks.items n false
+      → get_or l.marks.items n false
       ≡ (list_any (λ u. u.name == n) (map number_view (take l.found-index l.uses)) || get_or l.initial.marks.items n false);
 }

@@ -26,11 +26,11 @@ loop-at-preserved c =
     record {
       undefined =
           c.earlier_places-least.ensures.undefined
-            ∙ least_more (in_operation (undefined_in all) g) defs at x _ _ (omega arith) (search rules) c.loop-at.invariant.undefined
-              c.in_ok-places.ensures.undefined;
+          ∙ least_more (in_operation (undefined_in all) g) defs at x _ _ (omega arith) (search rules) c.loop-at.invariant.undefined
+          c.in_ok-places.ensures.undefined;
       unused = c.earlier_places-least.ensures.unused ∙ least_more (in_operation (unused_in all) g) defs at x _ _ (omega arith) (search rules) c.loop-at.invariant.unused c.in_ok-places.ensures.unused;
       wrong =
           c.earlier_places-least.ensures.wrong
-            ∙ least_more (in_operation (wrong_in (schema_view c.args.schema.now) all) g) defs at x _ _ (omega arith) (search rules)
-              c.loop-at.invariant.wrong c.in_ok-places.ensures.wrong;
+          ∙ least_more (in_operation (wrong_in (schema_view c.args.schema.now) all) g) defs at x _ _ (omega arith) (search rules)
+          c.loop-at.invariant.wrong c.in_ok-places.ensures.wrong;
     }

@@ -10,6 +10,6 @@ use Rattle.hq_rules_reach.proofs.variables_in_allowed_position.least_wrong.Given
 abbrev pub invariant-loop-found : goal.invariant-loop-found
 invariant-loop-found l =
     earlier l.least
-        (least_of (wrong_use (schema_view l.schema) (map var_def_view l.vars) (numbered_place l.places))
-           (map number_view (drop l.found-index l.uses)))
-      ≡ least_of (wrong_use (schema_view l.schema) (map var_def_view l.vars) (numbered_place l.places)) (map number_view l.uses)
+    (least_of (wrong_use (schema_view l.schema) (map var_def_view l.vars) (numbered_place l.places))
+    (map number_view (drop l.found-index l.uses)))
+    ≡ least_of (wrong_use (schema_view l.schema) (map var_def_view l.vars) (numbered_place l.places)) (map number_view l.uses)

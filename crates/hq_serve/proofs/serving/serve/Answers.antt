@@ -16,8 +16,8 @@ pub returns-in-Err-clause-serves : goal.returns-in-Err-clause-serves
 returns-in-Err-clause-serves g c =
     let small : c.connections.served < 2 ^ 32 = omega (arith, c.connections-test.true, c.ranges.connections.fits) in
     let more =
-        one_more_served (g.H.Responder.may_deny c.args.responder.now) (g.H.Responder.may_deny c.connections.responder)
-          (g.H.Responder.may_give c.args.responder.now) (g.H.Responder.may_give c.connections.responder)
+    one_more_served (g.H.Responder.may_deny c.args.responder.now) (g.H.Responder.may_deny c.connections.responder)
+    (g.H.Responder.may_give c.args.responder.now) (g.H.Responder.may_give c.connections.responder)
     (record { left = g.D.Link.Link.left; written = g.D.Link.Link.written; read_faults = g.D.Link.Link.read_faults; write_faults = g.D.Link.Link.write_faults })
     c.connections.served (g.D.Door.accepted c.args.door.now) (g.D.Door.accepted c.connections.door) (g.D.Door.accepted c.serve_next.new.door)
     (g.D.Door.links c.args.door.now) (g.D.Door.links c.connections.door) (g.D.Door.links c.serve_next.new.door)
@@ -34,8 +34,8 @@ pub connections-preserved : goal.connections-preserved
 connections-preserved g c =
     let small : c.connections.served < 2 ^ 32 = omega (arith, c.connections-test.true, c.ranges.connections.fits) in
     let more =
-        one_more_served (g.H.Responder.may_deny c.args.responder.now) (g.H.Responder.may_deny c.connections.responder)
-          (g.H.Responder.may_give c.args.responder.now) (g.H.Responder.may_give c.connections.responder)
+    one_more_served (g.H.Responder.may_deny c.args.responder.now) (g.H.Responder.may_deny c.connections.responder)
+    (g.H.Responder.may_give c.args.responder.now) (g.H.Responder.may_give c.connections.responder)
     (record { left = g.D.Link.Link.left; written = g.D.Link.Link.written; read_faults = g.D.Link.Link.read_faults; write_faults = g.D.Link.Link.write_faults })
     c.connections.served (g.D.Door.accepted c.args.door.now) (g.D.Door.accepted c.connections.door) (g.D.Door.accepted c.serve_next.new.door)
     (g.D.Door.links c.args.door.now) (g.D.Door.links c.connections.door) (g.D.Door.links c.serve_next.new.door)

@@ -7,4 +7,4 @@ pub returns-in-None : goal.returns-in-None
 returns-in-None c =
     let text = c.args.text.now in
     tab_or_none_at_end text c.strip_suffix-in-None.result (strip_suffix_char 32 text None c.in-None.ensures.cases (omega arith))
-      (strip_suffix_char 9 text c.strip_suffix-in-None.result c.strip_suffix-in-None.ensures.cases (omega arith))
+    (strip_suffix_char 9 text c.strip_suffix-in-None.result c.strip_suffix-in-None.ensures.cases (omega arith))

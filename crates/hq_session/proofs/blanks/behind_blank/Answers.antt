@@ -7,4 +7,4 @@ pub returns-in-None : goal.returns-in-None
 returns-in-None c =
     let text = c.args.text.now in
     tab_or_none text c.strip_prefix-in-None.result (strip_prefix_char 32 text None c.in-None.ensures.cases (omega arith))
-      (strip_prefix_char 9 text c.strip_prefix-in-None.result c.strip_prefix-in-None.ensures.cases (omega arith))
+    (strip_prefix_char 9 text c.strip_prefix-in-None.result c.strip_prefix-in-None.ensures.cases (omega arith))

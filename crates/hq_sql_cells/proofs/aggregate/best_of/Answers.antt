@@ -17,6 +17,6 @@ pub returns : goal.returns
 returns c =
     let best = cell_view c.loop-cell.best in
     let none : into_iter_items c.loop-cell.cell-iterator ≡ [] =
-        nil_from_length (into_iter_items c.loop-cell.cell-iterator)
-          (omega (arith, c.loop-cell.cell-iterator.rest.ok.0, c.in-None.ensures.steps.0)) in
+    nil_from_length (into_iter_items c.loop-cell.cell-iterator)
+    (omega (arith, c.loop-cell.cell-iterator.rest.ok.0, c.in-None.ensures.steps.0)) in
     sym (best_last c.args.greatest best c.loop-cell.invariant.1) ∙ ap (λ cells. best_in c.args.greatest (best ∷ map cell_view cells)) (sym none) ∙ c.loop-cell.invariant.0

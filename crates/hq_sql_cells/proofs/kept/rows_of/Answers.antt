@@ -7,4 +7,4 @@ use Rattle.hq_sql_cells.proofs.kept.rows_of.Goals as goal
 pub loop-row-preserved : goal.loop-row-preserved
 loop-row-preserved g c =
     left_more (map (λ (k : Kept _). k.row)) c.loop-row.rows.items c.push.new.self.items _ _ (into_iter_items c.next.new.self) _ _ refl
-      c.in-Some.ensures.steps.0 c.in_ok-push.ensures.items c.loop-row.invariant
+    c.in-Some.ensures.steps.0 c.in_ok-push.ensures.items c.loop-row.invariant

@@ -16,8 +16,8 @@ are_folded-returns-then-not-branch t c =
     let scope = scope_view c.args.scope.now in
     let whole = λ (list : List ExprPair). are_folded scope (pairs_of (map pair_view list)) in
     fails (is_folded scope (expr_view item.value)) (whole (drop (i + 1) items)) (whole (drop i items)) (whole items)
-      (ap (are_folded scope) (next_pair items i item within c.pair-item.is)) c.loop-pair.invariant
-      (sym c.in_ok-is_folded.ensures ∙ c.if-not-branch.true)
+    (ap (are_folded scope) (next_pair items i item within c.pair-item.is)) c.loop-pair.invariant
+    (sym c.in_ok-is_folded.ensures ∙ c.if-not-branch.true)
     ∙ ap whole c.deref-pair-items.ensures.value
 
 pub are_folded-loop-pair-preserved : goal.are_folded-loop-pair-preserved
@@ -29,5 +29,5 @@ are_folded-loop-pair-preserved t c =
     let scope = scope_view c.args.scope.now in
     let whole = λ (list : List ExprPair). are_folded scope (pairs_of (map pair_view list)) in
     passes (is_folded scope (expr_view item.value)) (whole (drop (i + 1) items)) (whole (drop i items)) (whole items)
-      (ap (are_folded scope) (next_pair items i item within c.pair-item.is)) c.loop-pair.invariant
-      (sym c.in_ok-is_folded.ensures ∙ c.if-not-branch.false)
+    (ap (are_folded scope) (next_pair items i item within c.pair-item.is)) c.loop-pair.invariant
+    (sym c.in_ok-is_folded.ensures ∙ c.if-not-branch.false)

@@ -18,7 +18,7 @@ push_aliases-returns-in_ok-push_of_joins-in-Rows t c =
     let seen = ap select_view c.in-Rows.is ∙ view_rows r.distinct r.outs r.from r.joins r.filter r.order r.limit r.offset in
     on_ok_weaker c.push_of_filter.result
     (λ e. pieces (texts c.args.aliases.now.items) (texts c.push_of_from.new.aliases.items) (texts c.push_of_joins.new.aliases.items)
-      (texts c.push_of_filter.new.aliases.items) (from_view r.from) (joins_of (map join_view r.joins.items)) (filter_view r.filter)
+    (texts c.push_of_filter.new.aliases.items) (from_view r.from) (joins_of (map join_view r.joins.items)) (filter_view r.filter)
     c.in_ok-push_of_from-in-Rows.ensures c.in_ok-push_of_joins-in-Rows.ensures e ∙ ap (λ s. texts c.args.aliases.now.items ++ aliases_in s []) (sym seen))
     c.push_of_filter.ensures
 
@@ -28,7 +28,7 @@ push_aliases-returns-in_ok-push_alias-in-Fold t c =
     let seen = ap select_view c.in-Fold.is ∙ view_fold f.out f.rows f.alias in
     on_ok_weaker c.push_aliases.result
     (λ e. beside_end (texts c.args.aliases.now.items) (texts c.push_alias.new.aliases.items) (texts c.push_aliases.new.aliases.items)
-      f.alias (select_view f.rows.value) c.in_ok-push_alias-in-Fold.ensures
+    f.alias (select_view f.rows.value) c.in_ok-push_alias-in-Fold.ensures
     (e ∙ ap (λ s. texts c.push_alias.new.aliases.items ++ aliases_in (select_view s) []) c.deref.ensures)
     ∙ ap (λ s. texts c.args.aliases.now.items ++ aliases_in s []) (sym seen))
     c.push_aliases.ensures
@@ -40,8 +40,8 @@ push_of_joins-loop-join-preserved t c =
     let item = c.join-item.result in
     let within : i < length items = omega arith in
     beside (texts c.loop-join.aliases.items) (texts c.push_alias.new.aliases.items) (texts c.push_aliases.new.aliases.items)
-      (aliases_in_joins (joins_of (map join_view (drop (i + 1) items))) []) item.alias (select_view item.select.value)
-      c.in_ok-push_alias.ensures
+    (aliases_in_joins (joins_of (map join_view (drop (i + 1) items))) []) item.alias (select_view item.select.value)
+    c.in_ok-push_alias.ensures
     (c.in_ok-push_aliases.ensures ∙ ap (λ s. texts c.push_alias.new.aliases.items ++ aliases_in (select_view s) []) c.deref.ensures)
     ∙ (ap (λ js. texts c.loop-join.aliases.items ++ aliases_in_joins js []) (sym (next_join items i item within c.join-item.is)) ∙ c.loop-join.invariant)
 
@@ -52,7 +52,7 @@ push_of_preds-loop-pred-preserved t c =
     let item = c.pred-item.result in
     let within : i < length items = omega arith in
     behind (texts c.loop-pred.aliases.items) (texts c.push_of_pred.new.aliases.items)
-      (aliases_in_preds (preds_of (map pred_view (drop (i + 1) items))) []) (pred_view item) c.in_ok-push_of_pred.ensures
+    (aliases_in_preds (preds_of (map pred_view (drop (i + 1) items))) []) (pred_view item) c.in_ok-push_of_pred.ensures
     ∙ (ap (λ ps. texts c.loop-pred.aliases.items ++ aliases_in_preds ps []) (sym (next_pred items i item within c.pred-item.is)) ∙ c.loop-pred.invariant)
 
 pub push_of_joins-returns : goal.push_of_joins-returns

@@ -29,5 +29,5 @@ returns c =
     let names = texts c.loop-pair.names.items in
     let all : names ≡ pair_names (pairs_of (map pair_view c.args.pairs.now.items)) =
     sym (append-nil names) ∙ ap (λ left. names ++ pair_names (pairs_of (map pair_view left))) (sym (drop_all i items past))
-      ∙ c.loop-pair.invariant ∙ ap (λ list. pair_names (pairs_of (map pair_view list))) c.deref-pair-items.ensures.value in
+    ∙ c.loop-pair.invariant ∙ ap (λ list. pair_names (pairs_of (map pair_view list))) c.deref-pair-items.ensures.value in
     subst (λ known. IfOk c.all_differ.result (λ differ. differ ≡ all_differ bytes_eq known)) all c.all_differ.ensures

@@ -9,4 +9,4 @@ use Rattle.hq_sql_check.proofs.distinct.are_keys.Given as goal
 abbrev pub invariant-loop-expr : goal.invariant-loop-expr
 invariant-loop-expr l =
     list_all (is_among (key_values (map order_view l.keys))) (map expr_view (drop l.expr-index l.exprs))
-      ≡ list_all (is_among (key_values (map order_view l.keys))) (map expr_view l.exprs)
+    ≡ list_all (is_among (key_values (map order_view l.keys))) (map expr_view l.exprs)

@@ -10,6 +10,6 @@ pub returns : goal.returns
 returns c =
     c.are_keys.ensures
     ∙
-      (ap (λ n. list_all (is_among (key_values (map order_view (take n c.args.keys.now)))) (map expr_view c.args.distinct.now))
-           c.front_among-front.ensures.front
-         ∙ sym (begins c.args.distinct.now c.args.keys.now))
+    (ap (λ n. list_all (is_among (key_values (map order_view (take n c.args.keys.now)))) (map expr_view c.args.distinct.now))
+    c.front_among-front.ensures.front
+    ∙ sym (begins c.args.distinct.now c.args.keys.now))

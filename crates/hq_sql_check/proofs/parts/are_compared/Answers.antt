@@ -11,7 +11,7 @@ returns-then-not-branch c =
     let i = c.loop-expr.expr-index in
     let within : i < length items = omega arith in
     all_fail (is_compared (scope_view c.args.scope.now)) expr_view items c.args.exprs.now.items i c.expr-item.result
-      c.deref-expr-items.ensures.value within c.expr-item.is c.loop-expr.invariant (sym c.in_ok-is_compared.ensures ∙ c.if-not-branch.true)
+    c.deref-expr-items.ensures.value within c.expr-item.is c.loop-expr.invariant (sym c.in_ok-is_compared.ensures ∙ c.if-not-branch.true)
 
 pub loop-expr-preserved : goal.loop-expr-preserved
 loop-expr-preserved c =

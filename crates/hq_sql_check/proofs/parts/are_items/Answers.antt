@@ -11,8 +11,8 @@ returns-then-not-branch c =
     let i = c.loop-item.item-index in
     let within : i < length items = omega arith in
     all_fail (is_item (scope_view c.args.scope.now) (expr_view c.args.value.now)) expr_view items c.args.items.now.items i
-      c.item-item.result c.deref-item-items.ensures.value within c.item-item.is c.loop-item.invariant
-      (sym c.in_ok-is_item.ensures ∙ c.if-not-branch.true)
+    c.item-item.result c.deref-item-items.ensures.value within c.item-item.is c.loop-item.invariant
+    (sym c.in_ok-is_item.ensures ∙ c.if-not-branch.true)
 
 pub loop-item-preserved : goal.loop-item-preserved
 loop-item-preserved c =
@@ -20,4 +20,4 @@ loop-item-preserved c =
     let i = c.loop-item.item-index in
     let within : i < length items = omega arith in
     all_pass (is_item (scope_view c.args.scope.now) (expr_view c.args.value.now)) expr_view items i c.item-item.result within c.item-item.is
-      c.loop-item.invariant (sym c.in_ok-is_item.ensures ∙ c.if-not-branch.false)
+    c.loop-item.invariant (sym c.in_ok-is_item.ensures ∙ c.if-not-branch.false)

@@ -9,4 +9,4 @@ use Rattle.hq_sql_check.proofs.parts.are_items.Given as goal
 abbrev pub invariant-loop-item : goal.invariant-loop-item
 invariant-loop-item l =
     list_all (is_item (scope_view l.scope) (expr_view l.value)) (map expr_view (drop l.item-index l.item-items))
-      ≡ list_all (is_item (scope_view l.scope) (expr_view l.value)) (map expr_view l.item-items)
+    ≡ list_all (is_item (scope_view l.scope) (expr_view l.value)) (map expr_view l.item-items)

@@ -11,8 +11,8 @@ returns-then-not-branch c =
     let i = c.loop-key.key-index in
     let within : i < length items = omega arith in
     all_fail (λ k. is_compared (scope_view c.args.scope.now) k.value) order_view items c.args.keys.now.items i c.key-item.result
-      c.deref-key-items.ensures.value within c.key-item.is c.loop-key.invariant
-      (ap (is_compared (scope_view c.args.scope.now)) (view_key c.key-item.result) ∙ sym c.in_ok-is_compared.ensures ∙ c.if-not-branch.true)
+    c.deref-key-items.ensures.value within c.key-item.is c.loop-key.invariant
+    (ap (is_compared (scope_view c.args.scope.now)) (view_key c.key-item.result) ∙ sym c.in_ok-is_compared.ensures ∙ c.if-not-branch.true)
 
 pub loop-key-preserved : goal.loop-key-preserved
 loop-key-preserved c =
@@ -20,5 +20,5 @@ loop-key-preserved c =
     let i = c.loop-key.key-index in
     let within : i < length items = omega arith in
     all_pass (λ k. is_compared (scope_view c.args.scope.now) k.value) order_view items i c.key-item.result within c.key-item.is
-      c.loop-key.invariant
-      (ap (is_compared (scope_view c.args.scope.now)) (view_key c.key-item.result) ∙ sym c.in_ok-is_compared.ensures ∙ c.if-not-branch.false)
+    c.loop-key.invariant
+    (ap (is_compared (scope_view c.args.scope.now)) (view_key c.key-item.result) ∙ sym c.in_ok-is_compared.ensures ∙ c.if-not-branch.false)

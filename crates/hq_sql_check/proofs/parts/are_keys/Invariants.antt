@@ -9,4 +9,4 @@ use Rattle.hq_sql_check.proofs.parts.are_keys.Given as goal
 abbrev pub invariant-loop-key : goal.invariant-loop-key
 invariant-loop-key l =
     list_all (λ k. is_compared (scope_view l.scope) k.value) (map order_view (drop l.key-index l.key-items))
-      ≡ list_all (λ k. is_compared (scope_view l.scope) k.value) (map order_view l.key-items)
+    ≡ list_all (λ k. is_compared (scope_view l.scope) k.value) (map order_view l.key-items)

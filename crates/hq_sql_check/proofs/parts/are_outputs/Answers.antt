@@ -11,7 +11,7 @@ returns-then-not-branch c =
     let i = c.loop-out.out-index in
     let within : i < length items = omega arith in
     all_fail (λ o. is_value (scope_view c.args.scope.now) o.value) out_view items c.args.outs.now.items i c.out-item.result
-      c.deref-out-items.ensures.value within c.out-item.is c.loop-out.invariant (sym c.in_ok-is_value.ensures ∙ c.if-not-branch.true)
+    c.deref-out-items.ensures.value within c.out-item.is c.loop-out.invariant (sym c.in_ok-is_value.ensures ∙ c.if-not-branch.true)
 
 pub loop-out-preserved : goal.loop-out-preserved
 loop-out-preserved c =

@@ -9,4 +9,4 @@ use Rattle.hq_sql_check.proofs.parts.are_outputs.Given as goal
 abbrev pub invariant-loop-out : goal.invariant-loop-out
 invariant-loop-out l =
     list_all (λ o. is_value (scope_view l.scope) o.value) (map out_view (drop l.out-index l.out-items))
-      ≡ list_all (λ o. is_value (scope_view l.scope) o.value) (map out_view l.out-items)
+    ≡ list_all (λ o. is_value (scope_view l.scope) o.value) (map out_view l.out-items)

@@ -13,5 +13,5 @@ loop-out-preserved c =
     let within : i < length items = omega arith in
     let names = c.loop-out.names.items in
     taken_more (λ o. (o.name, kind (scope_view c.args.scope.now) o.value)) out_view items i c.out-item.result (map name_view names)
-      (map name_view c.push.new.self.items) within c.out-item.is c.loop-out.invariant
+    (map name_view c.push.new.self.items) within c.out-item.is c.loop-out.invariant
     (ap (map name_view) c.in_ok-push.ensures.items ∙ map-append name_view names _ ∙ ap₂ (λ name its. map name_view names ++ (name, its) ∷ []) c.as_str.ensures c.kind.ensures)

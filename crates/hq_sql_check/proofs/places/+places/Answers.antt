@@ -17,8 +17,8 @@ add_places-returns-in_ok-add_joins-in-Rows t c =
     let seen = ap select_view c.in-Rows.is ∙ view_rows r.distinct r.outs r.from r.joins r.filter r.order r.limit r.offset in
     on_ok_weaker c.add_filter.result
     (λ e. three_pieces c.args.found.now.items c.add_from.new.found.items c.add_joins.new.found.items c.add_filter.new.found.items
-      (places_of_from (from_view r.from) tables) (places_of_joins (joins_of (map join_view r.joins.items)) tables)
-      (places_of_filter (filter_view r.filter) tables)
+    (places_of_from (from_view r.from) tables) (places_of_joins (joins_of (map join_view r.joins.items)) tables)
+    (places_of_filter (filter_view r.filter) tables)
     c.in_ok-add_from-in-Rows.ensures c.in_ok-add_joins-in-Rows.ensures e ∙ ap (λ s. c.args.found.now.items ++ places s tables) (sym seen))
     c.add_filter.ensures
 
@@ -31,8 +31,8 @@ add_joins-loop-join-preserved t c =
     let tables = c.args.tables.now in
     let found = c.loop-join.found.items in
     piece_more found c.add_places.new.found.items (places (select_view item.select.value) tables)
-      (places_of_joins (joins_of (map join_view (drop (i + 1) items))) tables)
-      (places_of_joins (joins_of (map join_view (drop i items))) tables) _
+    (places_of_joins (joins_of (map join_view (drop (i + 1) items))) tables)
+    (places_of_joins (joins_of (map join_view (drop i items))) tables) _
     (c.in_ok-add_places.ensures ∙ ap (λ s. found ++ places (select_view s) tables) c.deref.ensures)
     (ap (λ js. places_of_joins js tables) (next_join items i item within c.join-item.is)) c.loop-join.invariant
 
@@ -44,8 +44,8 @@ add_preds-loop-pred-preserved t c =
     let within : i < length items = omega arith in
     let tables = c.args.tables.now in
     piece_more c.loop-pred.found.items c.add_pred.new.found.items (places_of_pred (pred_view item) tables)
-      (places_of_preds (preds_of (map pred_view (drop (i + 1) items))) tables)
-      (places_of_preds (preds_of (map pred_view (drop i items))) tables) _
+    (places_of_preds (preds_of (map pred_view (drop (i + 1) items))) tables)
+    (places_of_preds (preds_of (map pred_view (drop i items))) tables) _
     c.in_ok-add_pred.ensures
     (ap (λ ps. places_of_preds ps tables) (next_pred items i item within c.pred-item.is)) c.loop-pred.invariant
 

@@ -28,14 +28,14 @@ push_joins-loop-join-preserved t c =
     record {
       well =
           ap (λ stack. are_typed_joins rest tables (stacked stack outer)) pushed
-            ∙
-              (joins_typed before outer item.alias names s rest tables are typed
-                 ∙ (ap (λ js. are_typed_joins js tables (stacked before outer)) (sym next) ∙ c.loop-join.invariant.well));
+          ∙
+          (joins_typed before outer item.alias names s rest tables are typed
+          ∙ (ap (λ js. are_typed_joins js tables (stacked before outer)) (sym next) ∙ c.loop-join.invariant.well));
       names =
           ap (λ stack. joined_scope rest tables (stacked stack outer)) pushed
-            ∙
-              (joins_scope before outer item.alias names s rest tables are
-                 ∙ (ap (λ js. joined_scope js tables (stacked before outer)) (sym next) ∙ c.loop-join.invariant.names));
+          ∙
+          (joins_scope before outer item.alias names s rest tables are
+          ∙ (ap (λ js. joined_scope js tables (stacked before outer)) (sym next) ∙ c.loop-join.invariant.names));
     }
 
 pub are_typed_preds-returns-then-not-branch : goal.are_typed_preds-returns-then-not-branch
@@ -47,8 +47,8 @@ are_typed_preds-returns-then-not-branch t c =
     let scope = scope_view c.args.scope.now in
     let whole = λ (list : List Pred). are_typed_preds (preds_of (map pred_view list)) tables scope in
     fails (is_typed_pred (pred_view c.pred-item.result) tables scope) (whole (drop (i + 1) items)) (whole (drop i items)) (whole items)
-      (ap (λ ps. are_typed_preds ps tables scope) (next_pred items i c.pred-item.result within c.pred-item.is)) c.loop-pred.invariant
-      (sym c.in_ok-is_typed_pred.ensures ∙ c.if-not-branch.true)
+    (ap (λ ps. are_typed_preds ps tables scope) (next_pred items i c.pred-item.result within c.pred-item.is)) c.loop-pred.invariant
+    (sym c.in_ok-is_typed_pred.ensures ∙ c.if-not-branch.true)
     ∙ ap whole c.deref-pred-items.ensures.value
 
 pub are_typed_preds-loop-pred-preserved : goal.are_typed_preds-loop-pred-preserved
@@ -60,8 +60,8 @@ are_typed_preds-loop-pred-preserved t c =
     let scope = scope_view c.args.scope.now in
     let whole = λ (list : List Pred). are_typed_preds (preds_of (map pred_view list)) tables scope in
     passes (is_typed_pred (pred_view c.pred-item.result) tables scope) (whole (drop (i + 1) items)) (whole (drop i items)) (whole items)
-      (ap (λ ps. are_typed_preds ps tables scope) (next_pred items i c.pred-item.result within c.pred-item.is)) c.loop-pred.invariant
-      (sym c.in_ok-is_typed_pred.ensures ∙ c.if-not-branch.false)
+    (ap (λ ps. are_typed_preds ps tables scope) (next_pred items i c.pred-item.result within c.pred-item.is)) c.loop-pred.invariant
+    (sym c.in_ok-is_typed_pred.ensures ∙ c.if-not-branch.false)
 
 pub are_typed_preds-returns : goal.are_typed_preds-returns
 are_typed_preds-returns t c =

@@ -16,7 +16,7 @@ are_closed-loop-pred-preserved t c =
     let within : i < length items = omega arith in
     let whole = λ (list : List Pred). are_closed names (preds_of (map pred_view list)) in
     passes (is_closed names (pred_view item)) (whole (drop (i + 1) items)) (whole (drop i items)) (whole items)
-      (ap (are_closed names) (next_pred items i item within c.pred-item.is)) c.loop-pred.invariant
+    (ap (are_closed names) (next_pred items i item within c.pred-item.is)) c.loop-pred.invariant
     (sym c.is_closed.ensures ∙ c.if-not-is_closed.false)
 
 pub are_closed-returns-then-not-is_closed : goal.are_closed-returns-then-not-is_closed
@@ -28,6 +28,6 @@ are_closed-returns-then-not-is_closed t c =
     let within : i < length items = omega arith in
     let whole = λ (list : List Pred). are_closed names (preds_of (map pred_view list)) in
     fails (is_closed names (pred_view item)) (whole (drop (i + 1) items)) (whole (drop i items)) (whole items)
-      (ap (are_closed names) (next_pred items i item within c.pred-item.is)) c.loop-pred.invariant
+    (ap (are_closed names) (next_pred items i item within c.pred-item.is)) c.loop-pred.invariant
     (sym c.is_closed.ensures ∙ c.if-not-is_closed.true)
     ∙ ap whole c.deref-pred-items.ensures.value

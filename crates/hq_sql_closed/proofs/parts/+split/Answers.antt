@@ -32,9 +32,9 @@ split_all-loop-pred-preserved t c =
     let x = c.pred-item.result in
     let more : take (i + 1) xs ≡ take i xs ++ (x ∷ []) = ap (λ k. take k xs) (add-one i) ∙ take-suc xs i x (omega arith) ∙ ap (λ q. take i xs ++ (q ∷ [])) (sym c.pred-item.is) in
     split_more (names_view c.args.names.now) (map pred_view (take i xs)) (map pred_view (take (i + 1) xs)) (pred_view x)
-      (total (map pred_weight (take i xs))) (pred_weight x) (total (map pred_weight (take (i + 1) xs)))
+    (total (map pred_weight (take i xs))) (pred_weight x) (total (map pred_weight (take (i + 1) xs)))
     c.args.closed.now.items c.args.rest.now.items c.loop-pred.closed.items c.loop-pred.rest.items c.split.new.closed.items c.split.new.rest.items
     c.loop-pred.invariant c.in_ok-split.ensures (ap (map pred_view) more ∙ map-append pred_view (take i xs) (x ∷ []))
     (ap (λ l. total (map pred_weight l)) more ∙ ap total (map-append pred_weight (take i xs) (x ∷ []))
-       ∙ total_append (map pred_weight (take i xs)) (pred_weight x ∷ [])
-       ∙ (let z : pred_weight x + 0 ≡ pred_weight x = omega arith in ap (λ n. total (map pred_weight (take i xs)) + n) z))
+    ∙ total_append (map pred_weight (take i xs)) (pred_weight x ∷ [])
+    ∙ (let z : pred_weight x + 0 ≡ pred_weight x = omega arith in ap (λ n. total (map pred_weight (take i xs)) + n) z))

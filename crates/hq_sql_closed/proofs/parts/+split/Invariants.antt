@@ -8,4 +8,4 @@ use Rattle.hq_sql_closed.proofs.parts.+split.Given as goal
 abbrev pub invariant-split_all-loop-pred : goal.invariant-split_all-loop-pred
 invariant-split_all-loop-pred l =
     IsSplit (names_view l.names) (kept_all (map pred_view (take l.pred-index l.pred-items)))
-      (total (map pred_weight (take l.pred-index l.pred-items))) l.initial.closed.items l.initial.rest.items l.closed.items l.rest.items
+    (total (map pred_weight (take l.pred-index l.pred-items))) l.initial.closed.items l.initial.rest.items l.closed.items l.rest.items

@@ -34,7 +34,7 @@ list_join-returns-clause-join t c =
     IfOk-weaker c.one_join.result _ _
     (λ join is. ap (λ (j : JoinTree). j ∷ []) is
     ∙ list_join s c.args.context.now.granted.now (start_origin l) (arguments_view l.args.now) fs l.row_table l.row_number u n m
-      c.args.next.now (pred_view c.in_ok-tie.tie) (body_view c.in_ok-body.body)
+    c.args.next.now (pred_view c.in_ok-tie.tie) (body_view c.in_ok-body.body)
     (row_view c.push_fields.new.row) (select_view c.in_ok-select.select) c.list_table-table.ensures c.in_ok-n.ensures.taken c.in_ok-tie.ensures c.in_ok-body.ensures.body c.in_ok-body.ensures.numbers
     pairs joins c.in_ok-select.ensures)
     c.one_join.ensures
@@ -66,7 +66,7 @@ push_fields-loop-keyed-preserved t c =
           (ap (λ (j : ℕ). field_joins f.1 s g u p n ++ fields_joins rest s g u p j) behind) c.in_ok-push_field.ensures.joins;
       numbers =
           count-more (λ (ks : List KeyedAskField). fields_numbers (fields_view ks) s g u) items i k n m (field_numbers f.1 s g u) _
-            c.loop-keyed.invariant.numbers c.loop-keyed-test.true c.keyed-item.is
+          c.loop-keyed.invariant.numbers c.loop-keyed-test.true c.keyed-item.is
           refl c.in_ok-push_field.ensures.numbers;
     }
 
@@ -96,11 +96,11 @@ push_parts-loop-keyed-preserved t c =
           (ap (λ (j : ℕ). pair ∷ parts_values rest s g u a j) behind) c.in_ok-push_part.ensures.pairs;
       joins =
           rest-more (λ (ks : List KeyedAggPart). parts_joins (parts_view ks) s g o l.row_table l.row_number a n)
-            (λ (ks : List KeyedAggPart). parts_joins (parts_view ks) s g o l.row_table l.row_number a m) items i k
+          (λ (ks : List KeyedAggPart). parts_joins (parts_view ks) s g o l.row_table l.row_number a m) items i k
           (map join_view old.joins.items) (map join_view new.joins.items) (part_joins q.1 s g o l.row_table l.row_number a n) _ c.loop-keyed.invariant.joins c.loop-keyed-test.true c.keyed-item.is
           (ap (λ (j : ℕ). part_joins q.1 s g o l.row_table l.row_number a n ++ parts_joins rest s g o l.row_table l.row_number a j) behind) c.in_ok-push_part.ensures.joins;
       numbers =
           count-more (λ (ks : List KeyedAggPart). parts_numbers (parts_view ks) s g u a) items i k n m (part_numbers q.1 s g u a) _
-            c.loop-keyed.invariant.numbers c.loop-keyed-test.true c.keyed-item.is
+          c.loop-keyed.invariant.numbers c.loop-keyed-test.true c.keyed-item.is
           refl c.in_ok-push_part.ensures.numbers;
     }

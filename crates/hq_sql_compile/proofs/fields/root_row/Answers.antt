@@ -26,12 +26,12 @@ loop-keyed-preserved c =
     record {
       pairs =
           one_more (λ ks j. values_at (table_fields (fields_view ks)) s g c.args.root 0 j)
-            (λ x j. values_at (table_fields (fields_view (x ∷ []))) s g c.args.root 0 j) (root_numbers s g c.args.root)
+          (λ x j. values_at (table_fields (fields_view (x ∷ []))) s g c.args.root 0 j) (root_numbers s g c.args.root)
           (values_step s g c.args.root) (drop i items) (drop (i + 1) items) k here (map pair_view old.pairs.items) (map pair_view new.pairs.items) _ n m
           c.in_ok-push_root.ensures.pairs c.in_ok-push_root.ensures.numbers c.loop-keyed.invariant.pairs;
       joins =
           one_more (λ ks j. fields_joins (table_fields (fields_view ks)) s g c.args.root 0 j)
-            (λ x j. fields_joins (table_fields (fields_view (x ∷ []))) s g c.args.root 0 j) (root_numbers s g c.args.root)
+          (λ x j. fields_joins (table_fields (fields_view (x ∷ []))) s g c.args.root 0 j) (root_numbers s g c.args.root)
           (joins_step s g c.args.root) (drop i items) (drop (i + 1) items) k here (map join_view old.joins.items) (map join_view new.joins.items) _ n m
           c.in_ok-push_root.ensures.joins c.in_ok-push_root.ensures.numbers c.loop-keyed.invariant.joins;
       numbers = omega (

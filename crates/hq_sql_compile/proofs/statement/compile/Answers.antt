@@ -18,9 +18,9 @@ returns-clause-well_formed c =
 pub returns-clause-readable : goal.returns-clause-readable
 returns-clause-readable c =
     statement_is_readable (asked_statement c.args.catalog.now.tables (meta_view c.args.meta.now) (ask_view c.args.ask.now))
-      c.args.catalog.now.tables (returns-clause-well_formed c)
+    c.args.catalog.now.tables (returns-clause-well_formed c)
 
 pub returns-clause-means : goal.returns-clause-means
 returns-clause-means c session d is database =
     c.requests_mean_resolved.ensures c.args.catalog.now.tables (meta_view c.args.meta.now) session (ask_view c.args.ask.now) d
-      c.args.catalog.now.valid database c.requires.request is c.in_ok-select.ensures.held
+    c.args.catalog.now.valid database c.requires.request is c.in_ok-select.ensures.held

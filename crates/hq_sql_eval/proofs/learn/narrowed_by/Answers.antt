@@ -30,6 +30,6 @@ returns c =
     c.in_ok-truths.ensures
     ∙ ap (λ js. narrowed c.args.before.now (map (λ row. keeps_one (rows_given F w []) (alias_in F) (joins_of (map join_view js)) C w (with_alias nothing a row)) rows)) c.as_slice-list.ensures.value
     ∙ ap (narrowed c.args.before.now)
-      (map_same keeps has rows
-         (λ row. table_has D O F J C K w (with_alias nothing a row) c.in-Table.schema c.in-Table.table c.in-Table.alias at
-            ∙ ap (λ s. has_rows (rows_of s w (with_alias nothing a row))) (sym sel)))
+    (map_same keeps has rows
+    (λ row. table_has D O F J C K w (with_alias nothing a row) c.in-Table.schema c.in-Table.table c.in-Table.alias at
+    ∙ ap (λ s. has_rows (rows_of s w (with_alias nothing a row))) (sym sel)))

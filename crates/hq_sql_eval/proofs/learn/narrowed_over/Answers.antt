@@ -15,8 +15,8 @@ pub finds-requires-clause-known : goal.finds-requires-clause-known
 finds-requires-clause-known c =
     IfSome_then c.known_of-known.result c.known_of-known.ensures.known
     (λ k h. known_at (world_of c.args.world.now) (from_view c.args.from.now) [] (source_view c.source_of-inner.result)
-       c.alias_of-other.result.now (joins_of (map join_view c.args.joins.now)) (filter_view c.args.filter.now) k.now
-       c.source_of-inner.ensures c.alias_of-other.ensures h)
+    c.alias_of-other.result.now (joins_of (map join_view c.args.joins.now)) (filter_view c.args.filter.now) k.now
+    c.source_of-inner.ensures c.alias_of-other.ensures h)
 
 pub loop-position-preserved : goal.loop-position-preserved
 loop-position-preserved c =
@@ -35,7 +35,7 @@ loop-position-preserved c =
     let here = ap₂ (λ given alias. get_or before i false && keeps_one given alias js C w at) c.source_of-inner.ensures c.alias_of-other.ensures in
     subst (λ l. l ≡ narrowed (take (i + 1) before) (take (i + 1) (map f rows))) (sym c.in_ok-push.ensures.items)
     (narrowed_step f rows before c.loop-position.truths.items i c.in_ok-finds.field-0 c.requires lt c.loop-position.invariant
-       (c.in_ok-finds.ensures ∙ here ∙ ap (λ r. get_or before i false && f r) row))
+    (c.in_ok-finds.ensures ∙ here ∙ ap (λ r. get_or before i false && f r) row))
 
 pub returns : goal.returns
 returns c =

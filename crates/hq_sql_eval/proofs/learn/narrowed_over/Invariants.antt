@@ -11,9 +11,9 @@ use Rattle.hq_sql_eval.proofs.learn.narrowed_over.Given as goal
 abbrev pub invariant-loop-position : goal.invariant-loop-position
 invariant-loop-position l =
     l.truths.items
-      ≡ narrowed (take l.position l.before)
-        (take l.position
-           (map
-              (λ row. keeps_one (rows_given (from_view l.from) (world_of l.world) []) (alias_in (from_view l.from))
-                 (joins_of (map join_view l.joins)) (filter_view l.filter) (world_of l.world) (with_alias nothing l.alias row))
-              (source_view l.source)))
+    ≡ narrowed (take l.position l.before)
+    (take l.position
+    (map
+    (λ row. keeps_one (rows_given (from_view l.from) (world_of l.world) []) (alias_in (from_view l.from))
+    (joins_of (map join_view l.joins)) (filter_view l.filter) (world_of l.world) (with_alias nothing l.alias row))
+    (source_view l.source)))

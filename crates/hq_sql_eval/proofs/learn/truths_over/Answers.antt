@@ -12,8 +12,8 @@ loop-pred-preserved c =
     let i = c.loop-pred.pred-index in
     let lt : i < length c.args.closed.now = omega (arith, c.loop-pred-test.true) in
     truths_step c.args.closed.now i c.pred-item.result (world_of c.args.world.now) c.args.alias.now (source_view c.args.source)
-      c.deref.result.now c.in_ok-truths-2.truths.items lt c.pred-item.is (c.deref.ensures.value ∙ c.loop-pred.invariant)
-      c.in_ok-truths-2.ensures
+    c.deref.result.now c.in_ok-truths-2.truths.items lt c.pred-item.is (c.deref.ensures.value ∙ c.loop-pred.invariant)
+    c.in_ok-truths-2.ensures
 
 pub narrowed-requires : goal.narrowed-requires
 narrowed-requires c = ap length (c.deref.ensures.value ∙ c.loop-pred.invariant) ∙ length-map (source_view c.args.source) _

@@ -20,16 +20,16 @@ put_pairs-loop-i-preserved t c =
     let below = rw c.deref-pair-items.ensures.value at c.loop-i-test.true in
     let is = rw c.deref-pair-items.ensures.value at c.pair-item.is in
     rest_of-more word.Comma (λ (ps : List ExprPair). pair_texts (pairs_of (map pair_view ps))) c.args.pairs.now.items c.loop-i.i
-      c.pair-item.result (pair_text (pair_view c.pair-item.result)) c.loop-i.out.items c.put_between.new.out.items c.put_pair.new.out.items
-      _ c.loop-i.invariant below is refl c.in_ok-put_between.ensures c.in_ok-put_pair.ensures
+    c.pair-item.result (pair_text (pair_view c.pair-item.result)) c.loop-i.out.items c.put_between.new.out.items c.put_pair.new.out.items
+    _ c.loop-i.invariant below is refl c.in_ok-put_between.ensures c.in_ok-put_pair.ensures
 
 pub put_orders-loop-i-preserved : goal.put_orders-loop-i-preserved
 put_orders-loop-i-preserved t c =
     let below = rw c.deref-order-items.ensures.value at c.loop-i-test.true in
     let is = rw c.deref-order-items.ensures.value at c.order-item.is in
     rest_of-more word.Comma (λ (os : List Order). order_texts (orders_of (map order_view os))) c.args.orders.now.items c.loop-i.i
-      c.order-item.result (order_text (order_view c.order-item.result)) c.loop-i.out.items c.put_between.new.out.items
-      c.put_order.new.out.items _ c.loop-i.invariant below is refl c.in_ok-put_between.ensures c.in_ok-put_order.ensures
+    c.order-item.result (order_text (order_view c.order-item.result)) c.loop-i.out.items c.put_between.new.out.items
+    c.put_order.new.out.items _ c.loop-i.invariant below is refl c.in_ok-put_between.ensures c.in_ok-put_order.ensures
 
 pub put_pairs-returns : goal.put_pairs-returns
 put_pairs-returns t c =
@@ -51,8 +51,8 @@ put_expr-returns-in_ok-put_pairs-in-Object t c =
     let seen = ap expr_view c.in-Object.is ∙ view_object c.in-Object.pairs in
     on_ok c.put_word-in-Object-2.result
     (λ e. three out c.put_word-in-Object.new.out.items c.put_pairs.new.out.items c.put_word-in-Object-2.new.out.items
-      (word_text word.BuildObject) (separated word.Comma (pair_texts (pairs_of (map pair_view c.in-Object.pairs.items))))
-      (word_text word.Close)
+    (word_text word.BuildObject) (separated word.Comma (pair_texts (pairs_of (map pair_view c.in-Object.pairs.items))))
+    (word_text word.Close)
     c.in_ok-put_word-in-Object.ensures c.in_ok-put_pairs-in-Object.ensures e ∙ ap (λ x. out ++ expr_text x) (sym seen))
     c.put_word-in-Object-2.ensures
 
@@ -65,9 +65,9 @@ put_agg-returns-in_ok-put_orders-in-JsonAgg t c =
     let seen = ap agg_view c.in-JsonAgg.is ∙ view_json_agg c.in-JsonAgg.value c.in-JsonAgg.order in
     on_ok c.put_word-in-JsonAgg-3.result
     (λ e. five out begun c.put_expr.new.out.items c.put_word-in-JsonAgg-2.new.out.items c.put_orders.new.out.items
-      c.put_word-in-JsonAgg-3.new.out.items (word_text word.JsonAgg) value (word_text word.OrderBy) keys (word_text word.OrEmptyArray)
+    c.put_word-in-JsonAgg-3.new.out.items (word_text word.JsonAgg) value (word_text word.OrderBy) keys (word_text word.OrEmptyArray)
     c.in_ok-put_word-in-JsonAgg.ensures
-        (c.in_ok-put_expr-in-JsonAgg.ensures ∙ ap (λ x. begun ++ expr_text (expr_view x)) c.deref-in-JsonAgg.ensures)
-        c.in_ok-put_word-in-JsonAgg-2.ensures c.in_ok-put_orders-in-JsonAgg.ensures e
-      ∙ ap (λ a. out ++ agg_text a) (sym seen))
+    (c.in_ok-put_expr-in-JsonAgg.ensures ∙ ap (λ x. begun ++ expr_text (expr_view x)) c.deref-in-JsonAgg.ensures)
+    c.in_ok-put_word-in-JsonAgg-2.ensures c.in_ok-put_orders-in-JsonAgg.ensures e
+    ∙ ap (λ a. out ++ agg_text a) (sym seen))
     c.put_word-in-JsonAgg-3.ensures

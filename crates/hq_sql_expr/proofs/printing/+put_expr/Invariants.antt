@@ -9,9 +9,9 @@ use Rattle.hq_sql_expr.proofs.printing.+put_expr.Given as goal
 abbrev pub invariant-put_pairs-loop-i : goal.invariant-put_pairs-loop-i
 invariant-put_pairs-loop-i l =
     l.out.items ++ rest_of word.Comma l.i (pair_texts (pairs_of (map pair_view (drop l.i l.pairs.items))))
-      ≡ l.initial.out.items ++ separated word.Comma (pair_texts (pairs_of (map pair_view l.pairs.items)))
+    ≡ l.initial.out.items ++ separated word.Comma (pair_texts (pairs_of (map pair_view l.pairs.items)))
 
 abbrev pub invariant-put_orders-loop-i : goal.invariant-put_orders-loop-i
 invariant-put_orders-loop-i l =
     l.out.items ++ rest_of word.Comma l.i (order_texts (orders_of (map order_view (drop l.i l.orders.items))))
-      ≡ l.initial.out.items ++ separated word.Comma (order_texts (orders_of (map order_view l.orders.items)))
+    ≡ l.initial.out.items ++ separated word.Comma (order_texts (orders_of (map order_view l.orders.items)))

@@ -11,8 +11,8 @@ loop-i-preserved c =
     let below = rw c.deref-expr-items.ensures.value at c.loop-i-test.true in
     let is = rw c.deref-expr-items.ensures.value at c.expr-item.is in
     rest_of-more word.Comma (λ (xs : List Expr). map expr_text (map expr_view xs)) c.args.exprs.now.items c.loop-i.i c.expr-item.result
-      (expr_text (expr_view c.expr-item.result)) c.loop-i.out.items c.put_between.new.out.items c.put_expr.new.out.items _
-      c.loop-i.invariant below is refl c.in_ok-put_between.ensures c.in_ok-put_expr.ensures
+    (expr_text (expr_view c.expr-item.result)) c.loop-i.out.items c.put_between.new.out.items c.put_expr.new.out.items _
+    c.loop-i.invariant below is refl c.in_ok-put_between.ensures c.in_ok-put_expr.ensures
 
 pub returns : goal.returns
 returns c =

@@ -8,4 +8,4 @@ use Rattle.hq_sql_expr.proofs.printing.put_exprs.Given as goal
 abbrev pub invariant-loop-i : goal.invariant-loop-i
 invariant-loop-i l =
     l.out.items ++ rest_of word.Comma l.i (map expr_text (map expr_view (drop l.i l.exprs.items)))
-      ≡ l.initial.out.items ++ separated word.Comma (map expr_text (map expr_view l.exprs.items))
+    ≡ l.initial.out.items ++ separated word.Comma (map expr_text (map expr_view l.exprs.items))

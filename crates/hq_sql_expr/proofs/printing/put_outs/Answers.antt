@@ -11,8 +11,8 @@ loop-i-preserved c =
     let below = rw c.deref-output-items.ensures.value at c.loop-i-test.true in
     let is = rw c.deref-output-items.ensures.value at c.output-item.is in
     rest_of-more word.Comma (λ (xs : List Out). map out_text (map out_view xs)) c.args.outs.now.items c.loop-i.i c.output-item.result
-      (out_text (out_view c.output-item.result)) c.loop-i.out.items c.put_between.new.out.items c.put_out.new.out.items _ c.loop-i.invariant
-      below is refl c.in_ok-put_between.ensures c.in_ok-put_out.ensures
+    (out_text (out_view c.output-item.result)) c.loop-i.out.items c.put_between.new.out.items c.put_out.new.out.items _ c.loop-i.invariant
+    below is refl c.in_ok-put_between.ensures c.in_ok-put_out.ensures
 
 pub returns : goal.returns
 returns c =

@@ -8,4 +8,4 @@ use Rattle.hq_sql_expr.proofs.printing.put_outs.Given as goal
 abbrev pub invariant-loop-i : goal.invariant-loop-i
 invariant-loop-i l =
     l.out.items ++ rest_of word.Comma l.i (map out_text (map out_view (drop l.i l.outs.items)))
-      ≡ l.initial.out.items ++ separated word.Comma (map out_text (map out_view l.outs.items))
+    ≡ l.initial.out.items ++ separated word.Comma (map out_text (map out_view l.outs.items))

@@ -24,9 +24,9 @@ pair_list-returns-in_err-pair t c =
     let item = pair_with (expr_with (λ h. below (inside_at h) c.args.depth)) in
     let p = err_from_is_err_and c.from_residual.result c.from_residual.ensures.1 in
     rw (p.1, p.2)
-      (refuses_more c.in_err-pair.field-0.0 _ _ c.in_err-pair.ensures
-         (fails item word.Comma (map pair_view l.found.items) (length c.args.bytes.now + 1) l.counter l.rest.now
-            (all_many item word.Comma c.args.bytes.now) c.loop-test.true l.invariant))
+    (refuses_more c.in_err-pair.field-0.0 _ _ c.in_err-pair.ensures
+    (fails item word.Comma (map pair_view l.found.items) (length c.args.bytes.now + 1) l.counter l.rest.now
+    (all_many item word.Comma c.args.bytes.now) c.loop-test.true l.invariant))
 
 pub pair_list-returns-in-None : goal.pair_list-returns-in-None
 pair_list-returns-in-None t c =
@@ -34,8 +34,8 @@ pair_list-returns-in-None t c =
     let item = pair_with (expr_with (λ h. below (inside_at h) c.args.depth)) in
     let e : map pair_view c.push.new.self.items ≡ map pair_view l.found.items ++ pair_view c.in_ok-pair.pair ∷ [] = rw c.in_ok-push.ensures.items (map_push _ l.found.items c.in_ok-pair.pair) in
     rw e
-      (finishes item word.Comma (map pair_view l.found.items) (length c.args.bytes.now + 1) l.counter l.rest.now
-         (all_many item word.Comma c.args.bytes.now) c.loop-test.true l.invariant _ _ c.in_ok-pair.ensures (sym c.in-None.ensures))
+    (finishes item word.Comma (map pair_view l.found.items) (length c.args.bytes.now + 1) l.counter l.rest.now
+    (all_many item word.Comma c.args.bytes.now) c.loop-test.true l.invariant _ _ c.in_ok-pair.ensures (sym c.in-None.ensures))
 
 pub pair_list-loop-preserved : goal.pair_list-loop-preserved
 pair_list-loop-preserved t c =
@@ -43,9 +43,9 @@ pair_list-loop-preserved t c =
     let item = pair_with (expr_with (λ h. below (inside_at h) c.args.depth)) in
     let e : map pair_view c.push.new.self.items ≡ map pair_view l.found.items ++ pair_view c.in_ok-pair.pair ∷ [] = rw c.in_ok-push.ensures.items (map_push _ l.found.items c.in_ok-pair.pair) in
     rw e
-      (goes_on item word.Comma (map pair_view l.found.items) (length c.args.bytes.now + 1) l.counter l.rest.now
-         (all_many item word.Comma c.args.bytes.now) c.loop-test.true l.invariant _ _ c.in-Some.next.now c.in_ok-pair.ensures
-         (sym c.in-Some.ensures))
+    (goes_on item word.Comma (map pair_view l.found.items) (length c.args.bytes.now + 1) l.counter l.rest.now
+    (all_many item word.Comma c.args.bytes.now) c.loop-test.true l.invariant _ _ c.in-Some.next.now c.in_ok-pair.ensures
+    (sym c.in-Some.ensures))
 
 pub pair_list-returns : goal.pair_list-returns
 pair_list-returns t c =
@@ -59,9 +59,9 @@ order_list-returns-in_err-order t c =
     let item = order_with (expr_with (λ h. below (inside_at h) c.args.depth)) in
     let p = err_from_is_err_and c.from_residual.result c.from_residual.ensures.1 in
     rw (p.1, p.2)
-      (refuses_more c.in_err-order.field-0.0 _ _ c.in_err-order.ensures
-         (fails item word.Comma (map order_view l.found.items) (length c.args.bytes.now + 1) l.counter l.rest.now
-            (all_many item word.Comma c.args.bytes.now) c.loop-test.true l.invariant))
+    (refuses_more c.in_err-order.field-0.0 _ _ c.in_err-order.ensures
+    (fails item word.Comma (map order_view l.found.items) (length c.args.bytes.now + 1) l.counter l.rest.now
+    (all_many item word.Comma c.args.bytes.now) c.loop-test.true l.invariant))
 
 pub order_list-returns-in-None : goal.order_list-returns-in-None
 order_list-returns-in-None t c =
@@ -69,8 +69,8 @@ order_list-returns-in-None t c =
     let item = order_with (expr_with (λ h. below (inside_at h) c.args.depth)) in
     let e : map order_view c.push.new.self.items ≡ map order_view l.found.items ++ order_view c.in_ok-order.order ∷ [] = rw c.in_ok-push.ensures.items (map_push _ l.found.items c.in_ok-order.order) in
     rw e
-      (finishes item word.Comma (map order_view l.found.items) (length c.args.bytes.now + 1) l.counter l.rest.now
-         (all_many item word.Comma c.args.bytes.now) c.loop-test.true l.invariant _ _ c.in_ok-order.ensures (sym c.in-None.ensures))
+    (finishes item word.Comma (map order_view l.found.items) (length c.args.bytes.now + 1) l.counter l.rest.now
+    (all_many item word.Comma c.args.bytes.now) c.loop-test.true l.invariant _ _ c.in_ok-order.ensures (sym c.in-None.ensures))
 
 pub order_list-loop-preserved : goal.order_list-loop-preserved
 order_list-loop-preserved t c =
@@ -78,9 +78,9 @@ order_list-loop-preserved t c =
     let item = order_with (expr_with (λ h. below (inside_at h) c.args.depth)) in
     let e : map order_view c.push.new.self.items ≡ map order_view l.found.items ++ order_view c.in_ok-order.order ∷ [] = rw c.in_ok-push.ensures.items (map_push _ l.found.items c.in_ok-order.order) in
     rw e
-      (goes_on item word.Comma (map order_view l.found.items) (length c.args.bytes.now + 1) l.counter l.rest.now
-         (all_many item word.Comma c.args.bytes.now) c.loop-test.true l.invariant _ _ c.in-Some.next.now c.in_ok-order.ensures
-         (sym c.in-Some.ensures))
+    (goes_on item word.Comma (map order_view l.found.items) (length c.args.bytes.now + 1) l.counter l.rest.now
+    (all_many item word.Comma c.args.bytes.now) c.loop-test.true l.invariant _ _ c.in-Some.next.now c.in_ok-order.ensures
+    (sym c.in-Some.ensures))
 
 pub order_list-returns : goal.order_list-returns
 order_list-returns t c =

@@ -19,7 +19,7 @@ loop-b-preserved-then-b-quote c =
     let b = c.in-Some.b.now in
     let tail = c.in-Some.tail.now in
     let so_far : with_front c.loop-b.text.items (unquoted q (b ∷ tail)) ≡ total =
-        subst (λ (r : List ℕ). with_front c.loop-b.text.items (unquoted q r) ≡ total) c.in-Some.ensures.cases.0 c.loop-b.invariant in
+    subst (λ (r : List ℕ). with_front c.loop-b.text.items (unquoted q r) ≡ total) c.in-Some.ensures.cases.0 c.loop-b.invariant in
     let e : c.push.new.self.items ≡ c.loop-b.text.items ++ b ∷ [] = c.in_ok-push.ensures.items in
     subst (λ (t : List ℕ). with_front t (unquoted q tail) ≡ total) (sym e) (at_byte q c.loop-b.text.items total b tail (ne_eqb b q c.if-b-quote.true) so_far)
 
@@ -30,7 +30,7 @@ returns-in-None c =
     let b = c.in-Some.b.now in
     let tail = c.in-Some.tail.now in
     let so_far : with_front c.loop-b.text.items (unquoted q (b ∷ tail)) ≡ total =
-        subst (λ (r : List ℕ). with_front c.loop-b.text.items (unquoted q r) ≡ total) c.in-Some.ensures.cases.0 c.loop-b.invariant in
+    subst (λ (r : List ℕ). with_front c.loop-b.text.items (unquoted q r) ≡ total) c.in-Some.ensures.cases.0 c.loop-b.invariant in
     at_done q c.loop-b.text.items total b tail (eq-eqb b q c.if-b-quote.false) (sym c.in-None.ensures) so_far
 
 pub loop-b-preserved : goal.loop-b-preserved
@@ -41,6 +41,6 @@ loop-b-preserved c =
     let tail = c.in-Some.tail.now in
     let more = c.in-Some-strip_quote.more.now in
     let so_far : with_front c.loop-b.text.items (unquoted q (b ∷ tail)) ≡ total =
-        subst (λ (r : List ℕ). with_front c.loop-b.text.items (unquoted q r) ≡ total) c.in-Some.ensures.cases.0 c.loop-b.invariant in
+    subst (λ (r : List ℕ). with_front c.loop-b.text.items (unquoted q r) ≡ total) c.in-Some.ensures.cases.0 c.loop-b.invariant in
     let e : c.push-in-Some-strip_quote.new.self.items ≡ c.loop-b.text.items ++ q ∷ [] = c.in_ok-push-in-Some-strip_quote.ensures.items in
     subst (λ (t : List ℕ). with_front t (unquoted q more) ≡ total) (sym e) (at_twice q c.loop-b.text.items total b tail more (eq-eqb b q c.if-b-quote.false) (sym c.in-Some-strip_quote.ensures) so_far)

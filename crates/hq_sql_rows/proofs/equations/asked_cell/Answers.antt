@@ -26,6 +26,6 @@ returns-in-Some-forced c =
     let found : position (λ k. bytes_eq k.name name) c.as_slice.result.now ≡ Some c.at.result = c.is_first.ensures c.if-not-is_first.false in
     let first : position (λ (k : Column). bytes_eq k.name name) columns ≡ Some at = ap (position (λ (k : Column). bytes_eq k.name name)) (sym c.as_slice.ensures) ∙ found ∙ ap Some c.at.ensures in
     let weaker : (o : Option KeyCell) → IfSome o (λ cell. (w : World) → key_view cell ≡ key_cell (value e [] (scope_of scope w)))
-      → IfSome o (λ cell. AsksCell columns at alias js p scope (key_view cell)) =
+    → IfSome o (λ cell. AsksCell columns at alias js p scope (key_view cell)) =
     elim [ None ↦ λ h. h | Some cell ↦ λ h. asks_cell columns at alias name js p scope e (key_view cell) first c.in-Some-forced.ensures.outer c.in-Some-forced.ensures.equals h ] in
     IfOk-weaker c.outer_cell.result _ _ weaker c.outer_cell.ensures

@@ -15,7 +15,7 @@ returns c e =
     let key = c.args.key.now in
     let found : position (λ k. bytes_eq k.name name) c.as_slice.result.now ≡ Some c.at.result = c.is_first.ensures c.if-not-is_first.false in
     let first : position (λ (k : Column). bytes_eq k.name name) columns ≡ Some c.args.column =
-        ap (position (λ (k : Column). bytes_eq k.name name)) (sym c.as_slice.ensures) ∙ found ∙ ap Some c.at.ensures in
+    ap (position (λ (k : Column). bytes_eq k.name name)) (sym c.as_slice.ensures) ∙ found ∙ ap Some c.at.ensures in
     let value : expr_view key.value ≡ (order_view key).value = search (rules, order_lemmas) in
     let desc : (order_view key).desc ≡ key.desc = search (rules, order_lemmas) in
     let is : is_column alias name (expr_view key.value) ≡ true = sym c.is_column.ensures ∙ e in

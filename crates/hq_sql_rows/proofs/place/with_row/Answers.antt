@@ -9,7 +9,7 @@ pub loop-joined-preserved : goal.loop-joined-preserved
 loop-joined-preserved c =
     let done = map joined_view c.loop-joined.all.items in
     left_more (λ lists. map (λ rows. Some (made_view c.args.row) ∷ rows) (map joined_view lists)) done
-      (map joined_view c.push.new.self.items) c.in-Some.joined _ (into_iter_items c.next.new.self) _ _ refl c.in-Some.ensures.steps.0
+    (map joined_view c.push.new.self.items) c.in-Some.joined _ (into_iter_items c.next.new.self) _ _ refl c.in-Some.ensures.steps.0
     (ap (map joined_view) c.in_ok-push.ensures.items ∙ map-append joined_view c.loop-joined.all.items _
     ∙ ap (λ v. done ++ v ∷ []) c.in_ok-in_front.ensures)
     c.loop-joined.invariant

@@ -6,4 +6,4 @@ use Rattle.hq_sql_rows.proofs.place.with_row.Given as goal
 abbrev pub invariant-loop-joined : goal.invariant-loop-joined
 invariant-loop-joined l =
     map joined_view l.all.items ++ map (λ rows. Some (made_view l.row) ∷ rows) (map joined_view (into_iter_items l.joined-iterator))
-      ≡ map (λ rows. Some (made_view l.row) ∷ rows) (map joined_view l.fn.lists.items)
+    ≡ map (λ rows. Some (made_view l.row) ∷ rows) (map joined_view l.fn.lists.items)

@@ -8,5 +8,5 @@ use Rattle.hq_sql_rows.proofs.scope.stored_named.Given as goal
 abbrev pub invariant-loop-stored : goal.invariant-loop-stored
 invariant-loop-stored l =
     rows_named (world_in (drop l.stored-index l.stored-items)).tables (world_in (drop l.stored-index l.stored-items)).database l.schema
-        l.name
-      ≡ rows_named (world_of l.world).tables (world_of l.world).database l.schema l.name
+    l.name
+    ≡ rows_named (world_of l.world).tables (world_of l.world).database l.schema l.name

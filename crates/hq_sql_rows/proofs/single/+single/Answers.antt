@@ -14,7 +14,7 @@ are_single-loop-join-preserved t c =
     let within : i < length items = omega arith in
     let whole = λ (list : List Join). are_single (joins_of (map join_view list)) in
     passes (is_single (select_view item.select.value)) (whole (drop (i + 1) items)) (whole (drop i items)) (whole items)
-      (ap are_single (next_join items i item within c.join-item.is)) c.loop-join.invariant
+    (ap are_single (next_join items i item within c.join-item.is)) c.loop-join.invariant
     (sym (c.is_single.ensures ∙ ap (λ s. is_single (select_view s)) c.deref.ensures) ∙ c.if-not-is_single.false)
 
 pub are_single-returns-then-not-is_single : goal.are_single-returns-then-not-is_single
@@ -25,6 +25,6 @@ are_single-returns-then-not-is_single t c =
     let within : i < length items = omega arith in
     let whole = λ (list : List Join). are_single (joins_of (map join_view list)) in
     fails (is_single (select_view item.select.value)) (whole (drop (i + 1) items)) (whole (drop i items)) (whole items)
-      (ap are_single (next_join items i item within c.join-item.is)) c.loop-join.invariant
+    (ap are_single (next_join items i item within c.join-item.is)) c.loop-join.invariant
     (sym (c.is_single.ensures ∙ ap (λ s. is_single (select_view s)) c.deref.ensures) ∙ c.if-not-is_single.true)
     ∙ ap whole c.deref-join-items.ensures.value

@@ -27,16 +27,16 @@ put_select-returns-in_ok-put_filter-in-Rows t c =
     let limit = number_text word.Limit c.in-Rows.limit in
     let offset = number_text word.Offset c.in-Rows.offset in
     let seen : select_view c.args.select.now
-      ≡ tree.rows (map expr_view c.in-Rows.distinct.items) (map out_view c.in-Rows.outs.items) (from_view c.in-Rows.from)
-        (joins_of (map join_view c.in-Rows.joins.items)) (filter_view c.in-Rows.filter) (map order_view c.in-Rows.order.items)
-        c.in-Rows.limit c.in-Rows.offset =
+    ≡ tree.rows (map expr_view c.in-Rows.distinct.items) (map out_view c.in-Rows.outs.items) (from_view c.in-Rows.from)
+    (joins_of (map join_view c.in-Rows.joins.items)) (filter_view c.in-Rows.filter) (map order_view c.in-Rows.order.items)
+    c.in-Rows.limit c.in-Rows.offset =
     ap select_view c.in-Rows.is ∙ view_rows c.in-Rows.distinct c.in-Rows.outs c.in-Rows.from c.in-Rows.joins c.in-Rows.filter c.in-Rows.order c.in-Rows.limit c.in-Rows.offset in
     let text : select_text (select_view c.args.select.now) ≡ (word_text word.Select ++ (distinct ++ outs)) ++ ((word_text word.From ++ from) ++ (joins ++ (condition ++ (keys ++ (limit ++ offset))))) =
     ap select_text seen ∙ sym (rows_pieces (word_text word.Select) distinct outs (word_text word.From) from joins condition keys limit offset) in
     on_ok c.put_end.result
     (λ e. five c.args.out.now.items c.put_outputs.new.out.items c.put_from.new.out.items c.put_joins.new.out.items
-      c.put_filter.new.out.items c.put_end.new.out.items (word_text word.Select ++ (distinct ++ outs)) (word_text word.From ++ from) joins
-      condition (keys ++ (limit ++ offset))
+    c.put_filter.new.out.items c.put_end.new.out.items (word_text word.Select ++ (distinct ++ outs)) (word_text word.From ++ from) joins
+    condition (keys ++ (limit ++ offset))
     c.in_ok-put_outputs-in-Rows.ensures c.in_ok-put_from-in-Rows.ensures c.in_ok-put_joins-in-Rows.ensures c.in_ok-put_filter-in-Rows.ensures e ∙ ap (λ t. c.args.out.now.items ++ t) (sym text))
     c.put_end.ensures
 
@@ -45,8 +45,8 @@ put_pred_list-loop-i-preserved t c =
     let below = rw c.deref-pred-items.ensures.value at c.loop-i-test.true in
     let is = rw c.deref-pred-items.ensures.value at c.pred-item.is in
     rest_of-more c.args.word (λ (ps : List Pred). pred_texts (preds_of (map pred_view ps))) c.args.preds.now.items c.loop-i.i
-      c.pred-item.result (pred_text (pred_view c.pred-item.result)) c.loop-i.out.items c.put_between.new.out.items c.put_pred.new.out.items
-      _ c.loop-i.invariant below is refl c.in_ok-put_between.ensures c.in_ok-put_pred.ensures
+    c.pred-item.result (pred_text (pred_view c.pred-item.result)) c.loop-i.out.items c.put_between.new.out.items c.put_pred.new.out.items
+    _ c.loop-i.invariant below is refl c.in_ok-put_between.ensures c.in_ok-put_pred.ensures
 
 pub put_pred_list-returns : goal.put_pred_list-returns
 put_pred_list-returns t c =
@@ -62,6 +62,6 @@ put_joins-returns t c =
 pub put_joins-loop-join-preserved : goal.put_joins-loop-join-preserved
 put_joins-loop-join-preserved t c =
     each_after-more word.LateralJoin 1 (λ (js : List Join). join_texts (joins_of (map join_view js))) c.deref-join-items.result.now
-      c.loop-join.join-index c.join-item.result (join_text (join_view c.join-item.result)) c.loop-join.out.items c.put_word.new.out.items
-      c.put_join.new.out.items _ c.loop-join.invariant c.loop-join-test.true c.join-item.is refl c.in_ok-put_word.ensures
-      c.in_ok-put_join.ensures
+    c.loop-join.join-index c.join-item.result (join_text (join_view c.join-item.result)) c.loop-join.out.items c.put_word.new.out.items
+    c.put_join.new.out.items _ c.loop-join.invariant c.loop-join-test.true c.join-item.is refl c.in_ok-put_word.ensures
+    c.in_ok-put_join.ensures

@@ -9,9 +9,9 @@ use Rattle.hq_sql_text.proofs.printing.+put_select.Given as goal
 abbrev pub invariant-put_joins-loop-join : goal.invariant-put_joins-loop-join
 invariant-put_joins-loop-join l =
     l.out.items ++ each_after word.LateralJoin (join_texts (joins_of (map join_view (drop l.join-index l.join-items))))
-      ≡ l.initial.out.items ++ each_after word.LateralJoin (join_texts (joins_of (map join_view l.join-items)))
+    ≡ l.initial.out.items ++ each_after word.LateralJoin (join_texts (joins_of (map join_view l.join-items)))
 
 abbrev pub invariant-put_pred_list-loop-i : goal.invariant-put_pred_list-loop-i
 invariant-put_pred_list-loop-i l =
     l.out.items ++ rest_of l.word l.i (pred_texts (preds_of (map pred_view (drop l.i l.preds.items))))
-      ≡ l.initial.out.items ++ separated l.word (pred_texts (preds_of (map pred_view l.preds.items)))
+    ≡ l.initial.out.items ++ separated l.word (pred_texts (preds_of (map pred_view l.preds.items)))

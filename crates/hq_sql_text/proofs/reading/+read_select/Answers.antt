@@ -24,7 +24,7 @@ inside_below-returns t c =
 
 -- where no alias is read, neither is the whole
 no_alias : (query : Reader SelectTree) (bytes behind rest : List ℕ) (s : SelectTree) (e : ReadRefusal) → query bytes ≡ Some (s, behind)
-  → after word.CloseAs behind ≡ Some rest → Refuses e (name_at rest) → Refuses e (aliased_with query bytes)
+    → after word.CloseAs behind ≡ Some rest → Refuses e (name_at rest) → Refuses e (aliased_with query bytes)
 unfolding aliased_with
 no_alias query bytes behind rest s Memory read closed h = tt
 no_alias query bytes behind rest s NotSql read closed h = rw (read, closed, h) refl
@@ -40,9 +40,9 @@ join_list-returns-in_err-join t c =
     let item = join_with (below select_at c.args.depth) in
     let p = err_from_is_err_and c.from_residual.result c.from_residual.ensures.1 in
     rw (p.1, p.2)
-      (refuses_more c.in_err-join.field-0.0 _ _ c.in_err-join.ensures
-         (fails item word.LateralJoin (map join_view l.found.items) (length c.args.bytes.now + 1) l.counter l.rest.now
-            (all_many item word.LateralJoin c.args.bytes.now) c.loop-test.true l.invariant))
+    (refuses_more c.in_err-join.field-0.0 _ _ c.in_err-join.ensures
+    (fails item word.LateralJoin (map join_view l.found.items) (length c.args.bytes.now + 1) l.counter l.rest.now
+    (all_many item word.LateralJoin c.args.bytes.now) c.loop-test.true l.invariant))
 
 pub join_list-returns-in-None : goal.join_list-returns-in-None
 join_list-returns-in-None t c =
@@ -50,8 +50,8 @@ join_list-returns-in-None t c =
     let item = join_with (below select_at c.args.depth) in
     let e : map join_view c.push.new.self.items ≡ map join_view l.found.items ++ join_view c.in_ok-join.join ∷ [] = rw c.in_ok-push.ensures.items (map_push _ l.found.items c.in_ok-join.join) in
     rw e
-      (finishes item word.LateralJoin (map join_view l.found.items) (length c.args.bytes.now + 1) l.counter l.rest.now
-         (all_many item word.LateralJoin c.args.bytes.now) c.loop-test.true l.invariant _ _ c.in_ok-join.ensures (sym c.in-None.ensures))
+    (finishes item word.LateralJoin (map join_view l.found.items) (length c.args.bytes.now + 1) l.counter l.rest.now
+    (all_many item word.LateralJoin c.args.bytes.now) c.loop-test.true l.invariant _ _ c.in_ok-join.ensures (sym c.in-None.ensures))
 
 pub join_list-loop-preserved : goal.join_list-loop-preserved
 join_list-loop-preserved t c =
@@ -59,9 +59,9 @@ join_list-loop-preserved t c =
     let item = join_with (below select_at c.args.depth) in
     let e : map join_view c.push.new.self.items ≡ map join_view l.found.items ++ join_view c.in_ok-join.join ∷ [] = rw c.in_ok-push.ensures.items (map_push _ l.found.items c.in_ok-join.join) in
     rw e
-      (goes_on item word.LateralJoin (map join_view l.found.items) (length c.args.bytes.now + 1) l.counter l.rest.now
-         (all_many item word.LateralJoin c.args.bytes.now) c.loop-test.true l.invariant _ _ c.in-Some.next.now c.in_ok-join.ensures
-         (sym c.in-Some.ensures))
+    (goes_on item word.LateralJoin (map join_view l.found.items) (length c.args.bytes.now + 1) l.counter l.rest.now
+    (all_many item word.LateralJoin c.args.bytes.now) c.loop-test.true l.invariant _ _ c.in-Some.next.now c.in_ok-join.ensures
+    (sym c.in-Some.ensures))
 
 pub join_list-returns : goal.join_list-returns
 join_list-returns t c =
@@ -75,9 +75,9 @@ pred_list-returns-in_err-pred t c =
     let item = pred_with (below inside_at c.args.depth) (below select_at c.args.depth) in
     let p = err_from_is_err_and c.from_residual.result c.from_residual.ensures.1 in
     rw (p.1, p.2)
-      (refuses_more c.in_err-pred.field-0.0 _ _ c.in_err-pred.ensures
-         (fails item c.args.between (map pred_view l.found.items) (length c.args.bytes.now + 1) l.counter l.rest.now
-            (all_many item c.args.between c.args.bytes.now) c.loop-test.true l.invariant))
+    (refuses_more c.in_err-pred.field-0.0 _ _ c.in_err-pred.ensures
+    (fails item c.args.between (map pred_view l.found.items) (length c.args.bytes.now + 1) l.counter l.rest.now
+    (all_many item c.args.between c.args.bytes.now) c.loop-test.true l.invariant))
 
 pub pred_list-returns-in-None : goal.pred_list-returns-in-None
 pred_list-returns-in-None t c =
@@ -85,8 +85,8 @@ pred_list-returns-in-None t c =
     let item = pred_with (below inside_at c.args.depth) (below select_at c.args.depth) in
     let e : map pred_view c.add_last.new.preds.items ≡ map pred_view l.found.items ++ pred_view c.in_ok-pred.pred.value ∷ [] = c.in_ok-add_last.ensures in
     rw e
-      (finishes item c.args.between (map pred_view l.found.items) (length c.args.bytes.now + 1) l.counter l.rest.now
-         (all_many item c.args.between c.args.bytes.now) c.loop-test.true l.invariant _ _ c.in_ok-pred.ensures (sym c.in-None.ensures))
+    (finishes item c.args.between (map pred_view l.found.items) (length c.args.bytes.now + 1) l.counter l.rest.now
+    (all_many item c.args.between c.args.bytes.now) c.loop-test.true l.invariant _ _ c.in_ok-pred.ensures (sym c.in-None.ensures))
 
 pub pred_list-loop-preserved : goal.pred_list-loop-preserved
 pred_list-loop-preserved t c =
@@ -94,9 +94,9 @@ pred_list-loop-preserved t c =
     let item = pred_with (below inside_at c.args.depth) (below select_at c.args.depth) in
     let e : map pred_view c.add_last.new.preds.items ≡ map pred_view l.found.items ++ pred_view c.in_ok-pred.pred.value ∷ [] = c.in_ok-add_last.ensures in
     rw e
-      (goes_on item c.args.between (map pred_view l.found.items) (length c.args.bytes.now + 1) l.counter l.rest.now
-         (all_many item c.args.between c.args.bytes.now) c.loop-test.true l.invariant _ _ c.in-Some.next.now c.in_ok-pred.ensures
-         (sym c.in-Some.ensures))
+    (goes_on item c.args.between (map pred_view l.found.items) (length c.args.bytes.now + 1) l.counter l.rest.now
+    (all_many item c.args.between c.args.bytes.now) c.loop-test.true l.invariant _ _ c.in-Some.next.now c.in_ok-pred.ensures
+    (sym c.in-Some.ensures))
 
 pub pred_list-returns : goal.pred_list-returns
 pred_list-returns t c =

@@ -60,10 +60,10 @@ decreases-inside_of l = 8 * l.depth + 6
 abbrev pub invariant-join_list-loop : goal.invariant-join_list-loop
 invariant-join_list-loop l =
     with_front (map join_view l.found.items) (many (join_with (below select_at l.depth)) word.LateralJoin (l.end - l.counter) l.rest)
-      ≡ all_many (join_with (below select_at l.depth)) word.LateralJoin l.bytes
+    ≡ all_many (join_with (below select_at l.depth)) word.LateralJoin l.bytes
 
 abbrev pub invariant-pred_list-loop : goal.invariant-pred_list-loop
 invariant-pred_list-loop l =
     with_front (map pred_view l.found.items)
-        (many (pred_with (below inside_at l.depth) (below select_at l.depth)) l.between (l.end - l.counter) l.rest)
-      ≡ all_many (pred_with (below inside_at l.depth) (below select_at l.depth)) l.between l.bytes
+    (many (pred_with (below inside_at l.depth) (below select_at l.depth)) l.between (l.end - l.counter) l.rest)
+    ≡ all_many (pred_with (below inside_at l.depth) (below select_at l.depth)) l.between l.bytes

@@ -17,9 +17,9 @@ pairs_within-loop-pair-preserved t c =
     let deep = λ (list : List ExprPair). pairs_depth (pairs_of (map pair_view list)) in
     let whole = λ (list : List ExprPair). nat_le (deep list) room in
     passes (nat_le (expr_depth (expr_view item.value)) room) (whole (drop (i + 1) items)) (whole (drop i items)) (whole items)
-      (ap (λ list. nat_le (pairs_depth list) room) (next_pair items i item within c.pair-item.is)
-         ∙ max_within (expr_depth (expr_view item.value)) (deep (drop (i + 1) items)) room)
-      c.loop-pair.invariant
+    (ap (λ list. nat_le (pairs_depth list) room) (next_pair items i item within c.pair-item.is)
+    ∙ max_within (expr_depth (expr_view item.value)) (deep (drop (i + 1) items)) room)
+    c.loop-pair.invariant
     (sym c.expr_within.ensures ∙ c.if-not-expr_within.false)
 
 pub pairs_within-returns-then-not-expr_within : goal.pairs_within-returns-then-not-expr_within
@@ -32,9 +32,9 @@ pairs_within-returns-then-not-expr_within t c =
     let deep = λ (list : List ExprPair). pairs_depth (pairs_of (map pair_view list)) in
     let whole = λ (list : List ExprPair). nat_le (deep list) room in
     fails (nat_le (expr_depth (expr_view item.value)) room) (whole (drop (i + 1) items)) (whole (drop i items)) (whole items)
-      (ap (λ list. nat_le (pairs_depth list) room) (next_pair items i item within c.pair-item.is)
-         ∙ max_within (expr_depth (expr_view item.value)) (deep (drop (i + 1) items)) room)
-      c.loop-pair.invariant
+    (ap (λ list. nat_le (pairs_depth list) room) (next_pair items i item within c.pair-item.is)
+    ∙ max_within (expr_depth (expr_view item.value)) (deep (drop (i + 1) items)) room)
+    c.loop-pair.invariant
     (sym c.expr_within.ensures ∙ c.if-not-expr_within.true)
     ∙ ap whole c.deref-pair-items.ensures.value
 
@@ -48,9 +48,9 @@ orders_within-loop-order-preserved t c =
     let deep = λ (list : List Order). orders_depth (orders_of (map order_view list)) in
     let whole = λ (list : List Order). nat_le (deep list) room in
     passes (nat_le (expr_depth (expr_view item.value)) room) (whole (drop (i + 1) items)) (whole (drop i items)) (whole items)
-      (ap (λ list. nat_le (orders_depth list) room) (next_order items i item within c.order-item.is)
-         ∙ max_within (expr_depth (expr_view item.value)) (deep (drop (i + 1) items)) room)
-      c.loop-order.invariant
+    (ap (λ list. nat_le (orders_depth list) room) (next_order items i item within c.order-item.is)
+    ∙ max_within (expr_depth (expr_view item.value)) (deep (drop (i + 1) items)) room)
+    c.loop-order.invariant
     (sym c.expr_within.ensures ∙ c.if-not-expr_within.false)
 
 pub orders_within-returns-then-not-expr_within : goal.orders_within-returns-then-not-expr_within
@@ -63,8 +63,8 @@ orders_within-returns-then-not-expr_within t c =
     let deep = λ (list : List Order). orders_depth (orders_of (map order_view list)) in
     let whole = λ (list : List Order). nat_le (deep list) room in
     fails (nat_le (expr_depth (expr_view item.value)) room) (whole (drop (i + 1) items)) (whole (drop i items)) (whole items)
-      (ap (λ list. nat_le (orders_depth list) room) (next_order items i item within c.order-item.is)
-         ∙ max_within (expr_depth (expr_view item.value)) (deep (drop (i + 1) items)) room)
-      c.loop-order.invariant
+    (ap (λ list. nat_le (orders_depth list) room) (next_order items i item within c.order-item.is)
+    ∙ max_within (expr_depth (expr_view item.value)) (deep (drop (i + 1) items)) room)
+    c.loop-order.invariant
     (sym c.expr_within.ensures ∙ c.if-not-expr_within.true)
     ∙ ap whole c.deref-order-items.ensures.value

@@ -12,4 +12,4 @@ invariant-pairs_within-loop-pair l = nat_le (pairs_depth (pairs_of (map pair_vie
 abbrev pub invariant-orders_within-loop-order : goal.invariant-orders_within-loop-order
 invariant-orders_within-loop-order l =
     nat_le (orders_depth (orders_of (map order_view (drop l.order-index l.order-items)))) l.room
-      ≡ nat_le (orders_depth (orders_of (map order_view l.order-items))) l.room
+    ≡ nat_le (orders_depth (orders_of (map order_view l.order-items))) l.room

@@ -16,9 +16,9 @@ preds_within-loop-pred-preserved t c =
     let deep = λ (list : List Pred). preds_depth (preds_of (map pred_view list)) in
     let whole = λ (list : List Pred). nat_le (deep list) room in
     passes (nat_le (pred_depth (pred_view item)) room) (whole (drop (i + 1) items)) (whole (drop i items)) (whole items)
-      (ap (λ list. nat_le (preds_depth list) room) (next_pred items i item within c.pred-item.is)
-         ∙ max_within (pred_depth (pred_view item)) (deep (drop (i + 1) items)) room)
-      c.loop-pred.invariant
+    (ap (λ list. nat_le (preds_depth list) room) (next_pred items i item within c.pred-item.is)
+    ∙ max_within (pred_depth (pred_view item)) (deep (drop (i + 1) items)) room)
+    c.loop-pred.invariant
     (sym c.pred_within.ensures ∙ c.if-not-pred_within.false)
 
 pub preds_within-returns-then-not-pred_within : goal.preds_within-returns-then-not-pred_within
@@ -31,8 +31,8 @@ preds_within-returns-then-not-pred_within t c =
     let deep = λ (list : List Pred). preds_depth (preds_of (map pred_view list)) in
     let whole = λ (list : List Pred). nat_le (deep list) room in
     fails (nat_le (pred_depth (pred_view item)) room) (whole (drop (i + 1) items)) (whole (drop i items)) (whole items)
-      (ap (λ list. nat_le (preds_depth list) room) (next_pred items i item within c.pred-item.is)
-         ∙ max_within (pred_depth (pred_view item)) (deep (drop (i + 1) items)) room)
-      c.loop-pred.invariant
+    (ap (λ list. nat_le (preds_depth list) room) (next_pred items i item within c.pred-item.is)
+    ∙ max_within (pred_depth (pred_view item)) (deep (drop (i + 1) items)) room)
+    c.loop-pred.invariant
     (sym c.pred_within.ensures ∙ c.if-not-pred_within.true)
     ∙ ap whole c.deref-pred-items.ensures.value

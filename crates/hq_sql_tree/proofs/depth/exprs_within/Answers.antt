@@ -15,8 +15,8 @@ loop-expr-preserved c =
     let deep = λ (list : List Expr). greatest (map expr_depth (map expr_view list)) in
     let whole = λ (list : List Expr). nat_le (deep list) room in
     passes (nat_le (expr_depth (expr_view item)) room) (whole (drop (i + 1) items)) (whole (drop i items)) (whole items)
-      (ap whole (next_item items i item within c.expr-item.is) ∙ max_within (expr_depth (expr_view item)) (deep (drop (i + 1) items)) room)
-      c.loop-expr.invariant
+    (ap whole (next_item items i item within c.expr-item.is) ∙ max_within (expr_depth (expr_view item)) (deep (drop (i + 1) items)) room)
+    c.loop-expr.invariant
     (sym c.expr_within.ensures ∙ c.if-not-expr_within.false)
 
 pub returns-then-not-expr_within : goal.returns-then-not-expr_within
@@ -29,7 +29,7 @@ returns-then-not-expr_within c =
     let deep = λ (list : List Expr). greatest (map expr_depth (map expr_view list)) in
     let whole = λ (list : List Expr). nat_le (deep list) room in
     fails (nat_le (expr_depth (expr_view item)) room) (whole (drop (i + 1) items)) (whole (drop i items)) (whole items)
-      (ap whole (next_item items i item within c.expr-item.is) ∙ max_within (expr_depth (expr_view item)) (deep (drop (i + 1) items)) room)
-      c.loop-expr.invariant
+    (ap whole (next_item items i item within c.expr-item.is) ∙ max_within (expr_depth (expr_view item)) (deep (drop (i + 1) items)) room)
+    c.loop-expr.invariant
     (sym c.expr_within.ensures ∙ c.if-not-expr_within.true)
     ∙ ap whole c.deref-expr-items.ensures.value

@@ -15,10 +15,10 @@ loop-key-preserved c =
     let deep = λ (list : List Order). greatest (map (λ k. expr_depth k.value) (map order_view list)) in
     let whole = λ (list : List Order). nat_le (deep list) room in
     passes (nat_le (expr_depth (expr_view item.value)) room) (whole (drop (i + 1) items)) (whole (drop i items)) (whole items)
-      (ap whole (next_item items i item within c.key-item.is)
-         ∙ ap (λ n. nat_le (max n (deep (drop (i + 1) items))) room) (ap expr_depth (view_key item))
-         ∙ max_within (expr_depth (expr_view item.value)) (deep (drop (i + 1) items)) room)
-      c.loop-key.invariant
+    (ap whole (next_item items i item within c.key-item.is)
+    ∙ ap (λ n. nat_le (max n (deep (drop (i + 1) items))) room) (ap expr_depth (view_key item))
+    ∙ max_within (expr_depth (expr_view item.value)) (deep (drop (i + 1) items)) room)
+    c.loop-key.invariant
     (sym c.expr_within.ensures ∙ c.if-not-expr_within.false)
 
 pub returns-then-not-expr_within : goal.returns-then-not-expr_within
@@ -31,9 +31,9 @@ returns-then-not-expr_within c =
     let deep = λ (list : List Order). greatest (map (λ k. expr_depth k.value) (map order_view list)) in
     let whole = λ (list : List Order). nat_le (deep list) room in
     fails (nat_le (expr_depth (expr_view item.value)) room) (whole (drop (i + 1) items)) (whole (drop i items)) (whole items)
-      (ap whole (next_item items i item within c.key-item.is)
-         ∙ ap (λ n. nat_le (max n (deep (drop (i + 1) items))) room) (ap expr_depth (view_key item))
-         ∙ max_within (expr_depth (expr_view item.value)) (deep (drop (i + 1) items)) room)
-      c.loop-key.invariant
+    (ap whole (next_item items i item within c.key-item.is)
+    ∙ ap (λ n. nat_le (max n (deep (drop (i + 1) items))) room) (ap expr_depth (view_key item))
+    ∙ max_within (expr_depth (expr_view item.value)) (deep (drop (i + 1) items)) room)
+    c.loop-key.invariant
     (sym c.expr_within.ensures ∙ c.if-not-expr_within.true)
     ∙ ap whole c.deref-key-items.ensures.value

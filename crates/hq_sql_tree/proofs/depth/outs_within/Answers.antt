@@ -15,9 +15,9 @@ loop-out-preserved c =
     let deep = λ (list : List Out). greatest (map (λ o. expr_depth o.value) (map out_view list)) in
     let whole = λ (list : List Out). nat_le (deep list) room in
     passes (nat_le (expr_depth (expr_view item.value)) room) (whole (drop (i + 1) items)) (whole (drop i items)) (whole items)
-      (ap whole (next_item items i item within c.out-item.is)
-         ∙ max_within (expr_depth (expr_view item.value)) (deep (drop (i + 1) items)) room)
-      c.loop-out.invariant
+    (ap whole (next_item items i item within c.out-item.is)
+    ∙ max_within (expr_depth (expr_view item.value)) (deep (drop (i + 1) items)) room)
+    c.loop-out.invariant
     (sym c.expr_within.ensures ∙ c.if-not-expr_within.false)
 
 pub returns-then-not-expr_within : goal.returns-then-not-expr_within
@@ -30,8 +30,8 @@ returns-then-not-expr_within c =
     let deep = λ (list : List Out). greatest (map (λ o. expr_depth o.value) (map out_view list)) in
     let whole = λ (list : List Out). nat_le (deep list) room in
     fails (nat_le (expr_depth (expr_view item.value)) room) (whole (drop (i + 1) items)) (whole (drop i items)) (whole items)
-      (ap whole (next_item items i item within c.out-item.is)
-         ∙ max_within (expr_depth (expr_view item.value)) (deep (drop (i + 1) items)) room)
-      c.loop-out.invariant
+    (ap whole (next_item items i item within c.out-item.is)
+    ∙ max_within (expr_depth (expr_view item.value)) (deep (drop (i + 1) items)) room)
+    c.loop-out.invariant
     (sym c.expr_within.ensures ∙ c.if-not-expr_within.true)
     ∙ ap whole c.deref-out-items.ensures.value

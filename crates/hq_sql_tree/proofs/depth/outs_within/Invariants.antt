@@ -7,4 +7,4 @@ use Rattle.hq_sql_tree.proofs.depth.outs_within.Given as goal
 abbrev pub invariant-loop-out : goal.invariant-loop-out
 invariant-loop-out l =
     nat_le (greatest (map (λ o. expr_depth o.value) (map out_view (drop l.out-index l.out-items)))) l.room
-      ≡ nat_le (greatest (map (λ o. expr_depth o.value) (map out_view l.out-items))) l.room
+    ≡ nat_le (greatest (map (λ o. expr_depth o.value) (map out_view l.out-items))) l.room

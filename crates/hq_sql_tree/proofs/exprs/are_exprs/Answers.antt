@@ -17,4 +17,4 @@ returns-then-not-is_expr c =
     let i = c.loop-expr.expr-index in
     let within : i < length items = omega arith in
     all_fail is_expr expr_view items c.args.exprs.now.items i c.expr-item.result c.deref-expr-items.ensures.value within c.expr-item.is
-      c.loop-expr.invariant (sym c.is_expr.ensures ∙ c.if-not-is_expr.true)
+    c.loop-expr.invariant (sym c.is_expr.ensures ∙ c.if-not-is_expr.true)

@@ -10,7 +10,7 @@ loop-key-preserved c =
     let i = c.loop-key.key-index in
     let within : i < length items = omega arith in
     all_pass (λ k. is_expr k.value) order_view items i c.key-item.result within c.key-item.is c.loop-key.invariant
-      (ap is_expr (view_key c.key-item.result) ∙ sym c.is_expr.ensures ∙ c.if-not-is_expr.false)
+    (ap is_expr (view_key c.key-item.result) ∙ sym c.is_expr.ensures ∙ c.if-not-is_expr.false)
 
 pub returns-then-not-is_expr : goal.returns-then-not-is_expr
 returns-then-not-is_expr c =
@@ -18,4 +18,4 @@ returns-then-not-is_expr c =
     let i = c.loop-key.key-index in
     let within : i < length items = omega arith in
     all_fail (λ k. is_expr k.value) order_view items c.args.keys.now.items i c.key-item.result c.deref-key-items.ensures.value within
-      c.key-item.is c.loop-key.invariant (ap is_expr (view_key c.key-item.result) ∙ sym c.is_expr.ensures ∙ c.if-not-is_expr.true)
+    c.key-item.is c.loop-key.invariant (ap is_expr (view_key c.key-item.result) ∙ sym c.is_expr.ensures ∙ c.if-not-is_expr.true)

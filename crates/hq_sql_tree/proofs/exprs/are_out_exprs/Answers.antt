@@ -17,4 +17,4 @@ returns-then-not-is_expr c =
     let i = c.loop-out.out-index in
     let within : i < length items = omega arith in
     all_fail (λ o. is_expr o.value) out_view items c.args.outs.now.items i c.out-item.result c.deref-out-items.ensures.value within
-      c.out-item.is c.loop-out.invariant (sym c.is_expr.ensures ∙ c.if-not-is_expr.true)
+    c.out-item.is c.loop-out.invariant (sym c.is_expr.ensures ∙ c.if-not-is_expr.true)

@@ -15,7 +15,7 @@ are_joins-loop-join-preserved t c =
     let within : i < length items = omega arith in
     let whole = λ (list : List Join). are_joins (joins_of (map join_view list)) in
     passes (is_select (select_view item.select.value)) (whole (drop (i + 1) items)) (whole (drop i items)) (whole items)
-      (ap are_joins (next_join items i item within c.join-item.is)) c.loop-join.invariant
+    (ap are_joins (next_join items i item within c.join-item.is)) c.loop-join.invariant
     (sym (c.is_select.ensures ∙ ap (λ s. is_select (select_view s)) c.deref.ensures) ∙ c.if-not-is_select.false)
 
 pub are_joins-returns-then-not-is_select : goal.are_joins-returns-then-not-is_select
@@ -26,7 +26,7 @@ are_joins-returns-then-not-is_select t c =
     let within : i < length items = omega arith in
     let whole = λ (list : List Join). are_joins (joins_of (map join_view list)) in
     fails (is_select (select_view item.select.value)) (whole (drop (i + 1) items)) (whole (drop i items)) (whole items)
-      (ap are_joins (next_join items i item within c.join-item.is)) c.loop-join.invariant
+    (ap are_joins (next_join items i item within c.join-item.is)) c.loop-join.invariant
     (sym (c.is_select.ensures ∙ ap (λ s. is_select (select_view s)) c.deref.ensures) ∙ c.if-not-is_select.true)
     ∙ ap whole c.deref-join-items.ensures.value
 

@@ -43,7 +43,7 @@ write_pairs-loop-at-preserved t c =
     let p = c.pair-item.result in
     let text : c.write_grouped.new.out ≡ c.put_separator.new.out ++ pair_text g n (pair_view p) =
     named_part c.put_separator.new.out (quoted p.name) (grouped_text (expr_view p.value) g n) c.put_quoted.new.out c.push.new.self
-      c.write_grouped.new.out c.in_ok-put_quoted.ensures c.in_ok-push.ensures.ok c.in_ok-write_grouped.ensures
+    c.write_grouped.new.out c.in_ok-put_quoted.ensures c.in_ok-push.ensures.ok c.in_ok-write_grouped.ensures
     ∙ ap (λ q. c.put_separator.new.out ++ pair_text g n q) (sym (pair_is p)) in
     rw (map_map (pair_text g n) pair_view (take (c.loop-at.at + 1) ps))
     (one_more (λ q. pair_text g n (pair_view q)) false ps c.loop-at.at p c.args.out.now c.loop-at.out c.put_separator.new.out c.write_grouped.new.out inside is

@@ -51,7 +51,7 @@ write_pairs-loop-at-preserved t c =
     let p = c.pair-item.result in
     let text : c.write_value.new.out ≡ c.put_separator.new.out ++ pair_text [] n (pair_view p) =
     named_part c.put_separator.new.out (quoted p.name) (text_of (expr_view p.value) n) c.put_quoted.new.out c.push.new.self
-      c.write_value.new.out c.in_ok-put_quoted.ensures c.in_ok-push.ensures.ok c.in_ok-write_value.ensures
+    c.write_value.new.out c.in_ok-put_quoted.ensures c.in_ok-push.ensures.ok c.in_ok-write_value.ensures
     ∙ ap (λ q. c.put_separator.new.out ++ pair_text [] n q) (sym (pair_is p)) in
     rw (map_map (pair_text [] n) pair_view (take (c.loop-at.at + 1) ps))
     (one_more (λ q. pair_text [] n (pair_view q)) false ps c.loop-at.at p c.args.out.now c.loop-at.out c.put_separator.new.out c.write_value.new.out inside is
@@ -126,5 +126,5 @@ write_found-loop-next-preserved t c =
       begun = c.has_begun-begun.ensures ∙ ap (λ h. c.loop-next.begun || h) (sym (has_image N places)) ∙ begun_more c.loop-next.begun before (map N places) all c.loop-next.invariant.begun found;
       out =
           stretched (expr_view c.args.expr.now) c.loop-next.begun before (map N places) all c.args.out.now c.loop-next.out
-            c.write_each.new.out c.loop-next.invariant.begun found c.loop-next.invariant.out c.in_ok-write_each.ensures;
+          c.write_each.new.out c.loop-next.invariant.begun found c.loop-next.invariant.out c.in_ok-write_each.ensures;
     }

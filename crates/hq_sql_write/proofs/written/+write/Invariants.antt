@@ -18,9 +18,9 @@ invariant-write_pairs-loop-at l = l.out ≡ l.initial.out ++ pairs_text (map pai
 abbrev pub invariant-write_each-loop-at : goal.invariant-write_each-loop-at
 invariant-write_each-loop-at l =
     l.out
-      ≡ l.initial.out
-        ++ more_texts l.begun
-          (map (text_of (expr_view l.expr)) (map (names_in l.placed (world_of l.world) (names_of l.scope l.world)) (take l.at l.places)))
+    ≡ l.initial.out
+    ++ more_texts l.begun
+    (map (text_of (expr_view l.expr)) (map (names_in l.placed (world_of l.world) (names_of l.scope l.world)) (take l.at l.places)))
 
 abbrev pub invariant-write_found-loop-next : goal.invariant-write_found-loop-next
 invariant-write_found-loop-next l = record {

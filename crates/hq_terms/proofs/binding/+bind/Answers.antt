@@ -17,7 +17,7 @@ bind_bexps-loop-bexp-preserved t c =
     let vars = c.args.session.now.vars in
     read_more (λ (bs : List Bexp). bound_all (bexps_of (map bexp_view bs)) s vars c.args.t) (λ (b : Bexp). bound (bexp_view b) s vars c.args.t) (λ b bs. refl)
     c.deref-bexp-items.result.now c.loop-bexp.bexp-index c.bexp-item.result _ _ (bexp_view c.in_ok-bind_bexp.field-0) _
-      c.loop-bexp.invariant c.loop-bexp-test.true c.bexp-item.is c.in_ok-bind_bexp.ensures
+    c.loop-bexp.invariant c.loop-bexp-test.true c.bexp-item.is c.in_ok-bind_bexp.ensures
     (ap (map bexp_view) c.in_ok-push.ensures.items ∙ map-append bexp_view _ _)
 
 -- an item that has no value is the refusal of the list

@@ -10,7 +10,8 @@ returns-in-Ok c =
 
 pub returns : goal.returns
 returns c =
-    inr
-      (refl,
-         refused (app_of c.args.command) c.args.words.now _ c.in-Err.error.kind (map_same c.args.words.now)
-           (c.in-Err.ensures.kinds c.requires) (λ e. c.in_default.not-OutOfMemory (c.kind.ensures ∙ e)))
+    inr (
+      refl,
+      refused (app_of c.args.command) c.args.words.now _ c.in-Err.error.kind (map_same c.args.words.now)
+          (c.in-Err.ensures.kinds c.requires) (λ e. c.in_default.not-OutOfMemory (c.kind.ensures ∙ e)),
+    )

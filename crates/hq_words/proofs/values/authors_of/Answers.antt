@@ -9,5 +9,5 @@ use Rattle.hq_words.proofs.values.authors_of.Goals as goal
 pub returns : goal.returns
 returns c =
     subst (λ (o : Option (List ℕ)). IfSome c.get_one.result (λ n. option_map (λ t. digits_value 10 (without_leading_plus t)) o ≡ Some n))
-      (one_text-rows (found_of c.args.matches.now) (codes "authors"))
+    (one_text-rows (found_of c.args.matches.now) (codes "authors"))
     (number_read 32 _ c.get_one.result c.get_one.ensures.none c.get_one.ensures.value)

@@ -6,10 +6,10 @@ use Rattle.hq_compile_tables.proofs.context.Context.key.Goals as goal
 pub returns-in-Some : goal.returns-in-Some
 returns-in-Some c =
     c.as_slice.ensures
-      ∙ ap (λ table. table.key)
-        (sym
-           (table_present c.args.self.now.scope.catalog.now.tables (meta_view c.args.self.now.scope.meta.now) c.args.t c.in-Some.table.now
-              (sym c.in-Some.ensures)))
+    ∙ ap (λ table. table.key)
+    (sym
+    (table_present c.args.self.now.scope.catalog.now.tables (meta_view c.args.self.now.scope.meta.now) c.args.t c.in-Some.table.now
+    (sym c.in-Some.ensures)))
 
 pub returns-in-None : goal.returns-in-None
 returns-in-None c =

@@ -30,7 +30,7 @@ returns-in-Some-clause-value g c =
     IfOk-weaker c.ask.result _ _
     (λ answer has.
     gives_over tables meta session ask
-      (λ d. c.tables_are_resolved.ensures.values (schema_of tables meta) (grants_of session tables meta) d ask.fields)
-      (g.D.Database.tables c.args.db.now) c.as_slice.result.now
+    (λ d. c.tables_are_resolved.ensures.values (schema_of tables meta) (grants_of session tables meta) d ask.fields)
+    (g.D.Database.tables c.args.db.now) c.as_slice.result.now
     (g.D.Database.database c.args.db.now) answer c.requires.catalog (c.as_slice.ensures ∙ there.1) is (g.met.D.Database.database_fits c.args.db.now) has)
     c.ask.ensures.answered

@@ -23,6 +23,6 @@ returns-clause-found g c =
     let is : entries ≡ indexed_rows columns rows = rw (c.as_slice-entries.ensures.value, c.as_slice-columns.ensures.value) c.requires.entries in
     let whole : has_null key ≡ false = sym c.key_has_null.ensures ∙ c.if-key_has_null.false in
     let found =
-        places_span columns rows entries key c.start_of-start.result.place c.end_of-end.result.place is whole c.start_of-start.ensures.place
-          c.end_of-end.ensures.place c.end_of-end.ensures.above in
+    places_span columns rows entries key c.start_of-start.result.place c.end_of-end.result.place is whole c.start_of-start.ensures.place
+    c.end_of-end.ensures.place c.end_of-end.ensures.above in
     rw (c.as_slice-entries.ensures.value, c.as_slice-columns.ensures.value) at found

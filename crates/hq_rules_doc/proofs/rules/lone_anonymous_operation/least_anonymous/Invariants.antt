@@ -8,4 +8,4 @@ use Rattle.hq_rules_doc.proofs.rules.lone_anonymous_operation.least_anonymous.Gi
 abbrev pub invariant-loop-definition : goal.invariant-loop-definition
 invariant-loop-definition l =
     earlier l.least (least_of anonymous_place (map definition_view (drop l.definition-index l.definition-items)))
-      ≡ least_of anonymous_place (map definition_view l.definition-items)
+    ≡ least_of anonymous_place (map definition_view l.definition-items)

@@ -10,5 +10,5 @@ pub add_root_fields-loop-selection-preserved : goal.add_root_fields-loop-selecti
 add_root_fields-loop-selection-preserved t c =
     item_added (λ (xs : List Selection). root_fields (selections_of (map selection_view xs))) c.deref-selection-items.result.now c.loop-selection.selection-index c.selection-item.result
     (root_fields_of (selection_view c.selection-item.result)) (map root_field_view c.loop-selection.fields.items)
-      (map root_field_view c.add_root_field.new.fields.items) _ c.loop-selection.invariant c.loop-selection-test.true c.selection-item.is
-      refl c.in_ok-add_root_field.ensures
+    (map root_field_view c.add_root_field.new.fields.items) _ c.loop-selection.invariant c.loop-selection-test.true c.selection-item.is
+    refl c.in_ok-add_root_field.ensures

@@ -11,4 +11,4 @@ add_root_spreads-loop-selection-preserved t c =
     let places = get_name c.args.places.now in
     item_added (λ (xs : List Selection). root_spreads places (selections_of (map selection_view xs))) c.deref-selection-items.result.now c.loop-selection.selection-index c.selection-item.result
     (root_spreads_of places (selection_view c.selection-item.result)) c.loop-selection.targets.items c.add_root_spread.new.targets.items _
-      c.loop-selection.invariant c.loop-selection-test.true c.selection-item.is refl c.in_ok-add_root_spread.ensures
+    c.loop-selection.invariant c.loop-selection-test.true c.selection-item.is refl c.in_ok-add_root_spread.ensures

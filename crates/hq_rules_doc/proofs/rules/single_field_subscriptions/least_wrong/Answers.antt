@@ -9,5 +9,5 @@ pub loop-at-preserved : goal.loop-at-preserved
 loop-at-preserved c =
     c.earlier-least.ensures
     ∙ least_more (subscription_at (graph_view c.args.graph.now) (document_view c.args.document.now)) c.args.document.now.definitions.items
-      c.loop-at.at c.definition-item.result c.loop-at.least c.in_ok-place.place (omega arith) (search rules) c.loop-at.invariant
-      c.in_ok-place.ensures
+    c.loop-at.at c.definition-item.result c.loop-at.least c.in_ok-place.place (omega arith) (search rules) c.loop-at.invariant
+    c.in_ok-place.ensures

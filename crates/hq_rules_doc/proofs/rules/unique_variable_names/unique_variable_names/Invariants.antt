@@ -8,4 +8,4 @@ use Rattle.hq_rules_doc.proofs.rules.unique_variable_names.unique_variable_names
 abbrev pub invariant-loop-definition : goal.invariant-loop-definition
 invariant-loop-definition l =
     earlier l.least (least_of repeated_variable (map definition_view (drop l.definition-index l.definition-items)))
-      ≡ least_of repeated_variable (map definition_view l.definition-items)
+    ≡ least_of repeated_variable (map definition_view l.definition-items)

@@ -13,7 +13,7 @@ compare-requires-clause-sound c = c.loop-b.invariant.step.sound c.requires.sound
 pub compare-requires-clause-second : goal.compare-requires-clause-second
 compare-requires-clause-second c =
     contained_item (field_in c.args.arena.now) c.args.theirs.now (fields_at (arena_view c.args.arena.now) c.args.right) c.loop-b.b-index
-      c.b-item.result c.requires.theirs c.loop-b-test.true c.b-item.is
+    c.b-item.result c.requires.theirs c.loop-b-test.true c.b-item.is
 
 pub loop-b-init : goal.loop-b-init
 loop-b-init c = record { step = step_refl (arena_view c.args.arena.now) c.args.self.now; compared = search rules }

@@ -16,4 +16,4 @@ pub returns : goal.returns
 returns c =
     let rows = rows_in c.args.read.grid in
     keys_due-differ c.args.table.now rows c.args.read.refusal (rw c.in_default.is at c.in_ok-keyed.ensures.repeat)
-      ∙ (ap (unless_refused rows) c.in_default-refusal.is ∙ ap Ok (sym c.in_ok-over.ensures))
+    ∙ (ap (unless_refused rows) c.in_default-refusal.is ∙ ap Ok (sym c.in_ok-over.ensures))

@@ -8,10 +8,10 @@ pub loop-place-preserved : goal.loop-place-preserved
 loop-place-preserved c =
     let within : c.loop-place.place-index < length c.args.places.now = omega (arith, c.loop-place-test.true) in
     let inside =
-        next_within c.args.rows.now.items c.args.values.now.items c.loop-place.values.items c.args.places.now c.loop-place.place-index
-          c.loop-place.rows.items c.loop-place.invariant within c.requires in
+    next_within c.args.rows.now.items c.args.values.now.items c.loop-place.values.items c.args.places.now c.loop-place.place-index
+    c.loop-place.rows.items c.loop-place.invariant within c.requires in
     let read : c.replace.result ≡ get_or c.loop-place.values.items (get_or c.args.places.now c.loop-place.place-index 0) val.Null =
     c.replace.ensures.value ∙ get_or_read c.loop-place.values.items _ _ inside c.index_mut.ensures.value val.Null in
     rw (c.in_ok-push.ensures.items, c.replace.ensures.after)
-      (IsArranged-more c.args.rows.now.items c.args.values.now.items c.loop-place.values.items c.args.places.now c.loop-place.place-index
-         c.loop-place.rows.items c.replace.result c.loop-place.invariant within c.requires read)
+    (IsArranged-more c.args.rows.now.items c.args.values.now.items c.loop-place.values.items c.args.places.now c.loop-place.place-index
+    c.loop-place.rows.items c.replace.result c.loop-place.invariant within c.requires read)

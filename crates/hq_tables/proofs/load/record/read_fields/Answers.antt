@@ -17,10 +17,10 @@ returns-in-Err c =
     elim c.in-Err.ensures [
       | inl wanted ↦ inl (c.at.ensures ∙ ap (refusal_at c.args.line (k + 1)) wanted)
       | inr due
-        ↦ inr
+          ↦ inr
           (FieldsRead-stop c.args.line columns (fields_of c.args.fields.now) k column.now c.loop-at.values.items c.in-Err.refusal
-               c.loop-at.invariant here inside (sym (ap (field_due column.now) c.field.ensures) ∙ due)
-             ∙ ap Err (sym c.at.ensures))
+          c.loop-at.invariant here inside (sym (ap (field_due column.now) c.field.ensures) ∙ due)
+          ∙ ap Err (sym c.at.ensures))
     ]
 
 pub loop-at-preserved : goal.loop-at-preserved
@@ -32,5 +32,5 @@ loop-at-preserved c =
     let here : drop k columns ≡ column.now ∷ drop (k + 1) columns = item_at (λ (x : Bor Column). x.now) c.args.columns.now k column within c.index-columns-at.is in
     let inside : k < length (fields_of c.args.fields.now) = omega (arith, within, c.requires) in
     rw c.in_ok-push-in-Ok.ensures.items
-      (FieldsRead-more c.args.line columns (fields_of c.args.fields.now) k column.now c.loop-at.values.items c.in-Ok.value
-         c.loop-at.invariant here inside (sym (ap (field_due column.now) c.field.ensures) ∙ c.in-Ok.ensures))
+    (FieldsRead-more c.args.line columns (fields_of c.args.fields.now) k column.now c.loop-at.values.items c.in-Ok.value
+    c.loop-at.invariant here inside (sym (ap (field_due column.now) c.field.ensures) ∙ c.in-Ok.ensures))

@@ -29,6 +29,6 @@ returns-clause-due c =
     let many : length fields ≡ length columns = simp length-map (omega (arith, c.len.ensures, c.if-len.false, c.len-2.ensures, layout.columns.ok.0)) in
     let due : fields_due c.args.line 1 columns fields ≡ Ok values = rw c.deref.ensures.value at c.in_ok-read_fields.ensures in
     ap (mapped (λ (row : Row). c.args.rows.now.items ++ row))
-      (record_due-arranged c.args.line layout.table.now (fields_of layout.header.now) columns fields layout.places.items values many due
-         layout.placed)
+    (record_due-arranged c.args.line layout.table.now (fields_of layout.header.now) columns fields layout.places.items values many due
+    layout.placed)
     ∙ ap Ok (sym (rw c.deref-2.ensures.value at c.in_ok-arrange.ensures))

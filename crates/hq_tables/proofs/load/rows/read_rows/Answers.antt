@@ -16,14 +16,14 @@ loop-rows-preserved c =
     let left = left_of c.next_record.new.reader in
     let found : left_of c.loop-rows.reader ≡ fields ∷ left = rw c.if-branch.true at c.in_ok-next_record.ensures.read in
     let so_far =
-        inv.read
-          ∙ ap
-            (λ rest. behind (chunked c.len-width.result c.loop-rows.count values)
-               (rows_read (c.loop-rows.count + 2) layout.table.now (names_of layout) (columns_of layout) rest))
-            found in
+    inv.read
+    ∙ ap
+    (λ rest. behind (chunked c.len-width.result c.loop-rows.count values)
+    (rows_read (c.loop-rows.count + 2) layout.table.now (names_of layout) (columns_of layout) rest))
+    found in
     let after =
-        read_more layout.table.now (names_of layout) (columns_of layout) c.len-width.result c.loop-rows.count values
-          c.read_row.new.rows.items fields left _ inv.long inv.wide c.in-Ok.ensures.due so_far in
+    read_more layout.table.now (names_of layout) (columns_of layout) c.len-width.result c.loop-rows.count values
+    c.read_row.new.rows.items fields left _ inv.long inv.wide c.in-Ok.ensures.due so_far in
     let fewer = ap length found in
     record {
       reading = c.in_ok-next_record.ensures.reading c.if-branch.true;

@@ -12,7 +12,7 @@ invariant-loop-rows l = record {
   wide : l.width ≡ length l.layout.table.now.columns;
   few : l.count + length (left_of l.reader) ≡ length (left_of l.initial.reader);
   read : rows_read 2 l.layout.table.now (names_of l.layout) (columns_of l.layout) (left_of l.initial.reader)
-    ≡ behind (chunked l.width l.count l.rows.items)
+      ≡ behind (chunked l.width l.count l.rows.items)
       (rows_read (l.count + 2) l.layout.table.now (names_of l.layout) (columns_of l.layout) (left_of l.reader));
 }
 

@@ -12,5 +12,5 @@ pub invariant_of-self-clause-within : goal.invariant_of-self-clause-within
 invariant_of-self-clause-within c =
     let s = c.args.self.now in
     all_below s.pins c.insert.new.self c.at.result (length s.all) s.within
-      (let e = length-database s.catalog.tables s.all s.fits in let r = c.requires in let a = c.at.ensures in omega (arith, e, r, a))
-      c.insert.ensures
+    (let e = length-database s.catalog.tables s.all s.fits in let r = c.requires in let a = c.at.ensures in omega (arith, e, r, a))
+    c.insert.ensures

@@ -11,7 +11,7 @@ use Rattle.hq_words.proofs.command.Command.read.Goals as goal
 
 -- the first word is the command's name
 name_and_words : (words : List Text) (first name : Text) → 1 ≤ length words → first ≡ get_or words 0 first → name ≡ first
-  → command_named name (take (length words - 1) (drop 1 words)) ≡ command_of words
+    → command_named name (take (length words - 1) (drop 1 words)) ≡ command_of words
 name_and_words [] first name h e f = absurd (omega (arith, h))
 name_and_words (w ∷ ws) first name h e f = ap (command_named name) (take_all (length (w ∷ ws) - 1) ws (omega arith)) ∙ ap (λ n. command_named n ws) (f ∙ e)
 

@@ -23,7 +23,7 @@ invariant_of-result-clause-named c =
     let names = fields_of c.args.header.now in
     let placed : places_named c.args.table.now.columns names ≡ Some c.in-Some.places.items = rw (c.as_slice-columns.ensures, c.in-Some.is) at (sym c.in_ok-places.ensures) in
     let named : columns_named c.args.table.now.columns names ≡ Some (map (λ (x : Bor Column). x.now) c.in-Some-2.columns.items) =
-        rw (c.as_slice-columns.ensures, c.in-Some-2.is) at (sym c.in_ok-columns.ensures) in
+    rw (c.as_slice-columns.ensures, c.in-Some-2.is) at (sym c.in_ok-columns.ensures) in
     let many : length names ≡ length c.args.table.now.columns = sym c.len.ensures ∙ (c.if-len-columns.false ∙ ap length c.as_slice-columns.ensures) in
     header_due-whole c.args.table.now.columns names c.in-Some.places.items many placed ∙ named
 
@@ -32,7 +32,7 @@ invariant_of-result-clause-apart c =
     let names = fields_of c.args.header.now in
     let placed : places_named c.args.table.now.columns names ≡ Some c.in-Some.places.items = rw (c.as_slice-columns.ensures, c.in-Some.is) at (sym c.in_ok-places.ensures) in
     let named : columns_named c.args.table.now.columns names ≡ Some (map (λ (x : Bor Column). x.now) c.in-Some-2.columns.items) =
-        rw (c.as_slice-columns.ensures, c.in-Some-2.is) at (sym c.in_ok-columns.ensures) in
+    rw (c.as_slice-columns.ensures, c.in-Some-2.is) at (sym c.in_ok-columns.ensures) in
     let found = map (λ (x : Bor Column). x.now) c.in-Some-2.columns.items in
     let long : length c.in-Some-2.columns.items ≡ length names = simp length-map at (length-columns_named c.args.table.now.columns names found named) in
     subst (λ n. are_places n c.in-Some.places.items ≡ true) (sym long) (places-apart c.args.table.now.columns names c.in-Some.places.items placed c.requires)
