@@ -2,7 +2,7 @@
 //! variables `$` with their name.
 
 use crate::{Words, push_value};
-use hq_model::{Arity, Bexp, BexpList, Op, Operand, Operands, Test};
+use hq_model::{Arity, Bexp, BexpList, Op, Operand, Operands, Operator, Test};
 
 fn push_operand(operand: &Operand, words: &mut Words) {
     match operand {
@@ -14,32 +14,6 @@ fn push_operand(operand: &Operand, words: &mut Words) {
 // What stands before the member at a place.
 fn before(at: usize) -> &'static str {
     if at == 0 { "" } else { ", " }
-}
-
-fn sign(op: Op) -> &'static str {
-    match op {
-        Op::Eq => " = ",
-        Op::Ne => " <> ",
-        Op::Lt => " < ",
-        Op::Le => " <= ",
-        Op::Gt => " > ",
-        Op::Ge => " >= ",
-    }
-}
-
-// What is said of a column by a test, or by its opposite.
-fn test_word(test: Test, negated: bool) -> &'static str {
-    match (test, negated) {
-        (Test::Compare(op), _) => sign(op),
-        (Test::Among, false) => " in ",
-        (Test::Among, true) => " not in ",
-        (Test::IsNull, false) => " is null",
-        (Test::IsNull, true) => " is not null",
-        (Test::Like { fold: false }, false) => " like ",
-        (Test::Like { fold: false }, true) => " not like ",
-        (Test::Like { fold: true }, false) => " ilike ",
-        (Test::Like { fold: true }, true) => " not ilike ",
-    }
 }
 
 // A column and what is said of it.
@@ -75,13 +49,13 @@ fn push_operands(test: Test, operands: &Operands, words: &mut Words) {
 
 // A column, what is said of it, and the operands.
 fn push_test(col: usize, test: Test, operands: &Operands, negated: bool, words: &mut Words) {
-    push_column(col, test_word(test, negated), words);
+    push_column(col, Operator { test, negated }.words(), words);
     push_operands(test, operands, words);
 }
 
 // How a column stands to another one.
 fn push_columns(left: usize, op: Op, right: usize, words: &mut Words) {
-    push_column(left, sign(op), words);
+    push_column(left, op.sign(), words);
     words.push("c");
     words.push_place(right);
 }

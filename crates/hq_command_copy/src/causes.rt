@@ -8,28 +8,9 @@ ghost use Rattle.hq_faults.specs.FaultTexts.{want_text};
 use hq_base::{Memory, Txt};
 use hq_copy_definition::CopyRefusal;
 use hq_copy_text::PartRefusal;
+use hq_faults::want_text;
 use hq_model::Want;
 use std::alloc::Global;
-
-/// What a variable's text was to be read as, as a fault of a request tells it.
-#[tactic(auto, unfolding(hq_faults::specs::FaultTexts::want_text))]
-fn want_text(want: Want) -> &'static str
-    ensures text { result.now ≡ want_text (Some want) }
-    ensures clean { has_zero result.now ≡ false }
-{
-    match want {
-        Want::Integer => "integer",
-        Want::Bigint => "bigint",
-        Want::Boolean => "boolean",
-        Want::Uuid => "uuid",
-        Want::Pattern => "pattern",
-        Want::IntegerList => "list of integer",
-        Want::BigintList => "list of bigint",
-        Want::TextList => "list of text",
-        Want::BooleanList => "list of boolean",
-        Want::UuidList => "list of uuid",
-    }
-}
 
 // A cause without fields.
 fn text(alloc: Global, cause: &str) -> Result<Txt, Memory>
@@ -76,7 +57,7 @@ fn with_want(alloc: Global, name: &Txt, want: Want) -> Result<Txt, Memory>
 {
     let mut text = with_name(alloc, "BadVariable", name)?;
     text.push_str(" ")?;
-    text.push_str(want_text(want))?;
+    text.push_str(want_text(Some(want)))?;
     Ok(text)
 }
 

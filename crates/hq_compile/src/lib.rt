@@ -1,7 +1,7 @@
 //! The compiler: a typed request to the one statement that answers it.
 #![tactic(auto)]
 
-mod few;
+mod counts;
 mod fields;
 mod grants;
 mod statement;

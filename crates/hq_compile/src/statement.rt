@@ -22,7 +22,7 @@ ghost use Rattle.hq_laws_confine.specs.Own.Asks.{IsAskedConfined};
 ghost use Rattle.hq_compile_tables.specs.Contexts.{context_schema, context_rights};
 ghost use Rattle.hq_compile.specs.Fields.{fields_view};
 
-use crate::few::count_fields;
+use crate::counts::count_fields;
 use crate::fields::root_row;
 use crate::grants::granted;
 use hq_base::Memory;

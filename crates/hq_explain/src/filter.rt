@@ -3,7 +3,8 @@
 use hq_base::Val;
 use hq_explain_places::Words;
 use hq_model::{
-    Arity, Bexp, BexpList, Catalog, ColId, Meta, Op, Operand, Operands, RelId, TableId, Test,
+    Arity, Bexp, BexpList, Catalog, ColId, Meta, Op, Operand, Operands, Operator, RelId, TableId,
+    Test,
 };
 
 /// What a filter is over: a table of a catalog, with its relationships.
@@ -62,32 +63,6 @@ fn put_operands(words: &mut Words, test: Test, operands: &Operands) {
     }
 }
 
-fn sign(op: Op) -> &'static str {
-    match op {
-        Op::Eq => " = ",
-        Op::Ne => " <> ",
-        Op::Lt => " < ",
-        Op::Le => " <= ",
-        Op::Gt => " > ",
-        Op::Ge => " >= ",
-    }
-}
-
-// What is said of a column by a test, or by its opposite.
-fn test_word(test: Test, negated: bool) -> &'static str {
-    match (test, negated) {
-        (Test::Compare(op), _) => sign(op),
-        (Test::Among, false) => " in ",
-        (Test::Among, true) => " not in ",
-        (Test::IsNull, false) => " is null",
-        (Test::IsNull, true) => " is not null",
-        (Test::Like { fold: false }, false) => " like ",
-        (Test::Like { fold: false }, true) => " not like ",
-        (Test::Like { fold: true }, false) => " ilike ",
-        (Test::Like { fold: true }, true) => " not ilike ",
-    }
-}
-
 fn put_column(words: &mut Words, scope: &FilterTable<'_>, col: ColId) {
     if let Some(table) = scope.catalog.table(scope.table)
         && let Some(column) = table.column(col)
@@ -106,14 +81,14 @@ fn put_test(
     negated: bool,
 ) {
     put_column(words, scope, col);
-    words.put(test_word(test, negated));
+    words.put(Operator { test, negated }.words());
     put_operands(words, test, operands);
 }
 
 // How a column stands to another one of the same row.
 fn put_compared(words: &mut Words, scope: &FilterTable<'_>, left: ColId, op: Op, right: ColId) {
     put_column(words, scope, left);
-    words.put(sign(op));
+    words.put(op.sign());
     put_column(words, scope, right);
 }
 

@@ -53,8 +53,9 @@ fn fixed_message(rule: RuleId) -> Option<&'static str>
     }
 }
 
+/// What a session variable was to be read as, in words; the empty text where that is not said.
 #[tactic(auto, unfolding(crate::specs::FaultTexts::want_text))]
-fn want_text(want: Option<Want>) -> &'static str
+pub fn want_text(want: Option<Want>) -> &'static str
     ensures text { result.now ≡ want_text want }
     ensures clean { has_zero result.now ≡ false }
 {

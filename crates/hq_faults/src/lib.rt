@@ -4,5 +4,5 @@
 mod fault_text;
 mod faults;
 
-pub use fault_text::fault_json;
+pub use fault_text::{fault_json, want_text};
 pub use faults::{BodyFault, RequestFault, fault_at};

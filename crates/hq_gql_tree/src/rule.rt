@@ -6,7 +6,7 @@ use std::fmt;
 /// A rule that a request can violate: first those of reading, then the sections of the same titles in the GraphQL specification,
 /// October 2021, section 5, which have no line of their own, and then those of the operation. Which fault of a request comes
 /// first, hq_request says.
-#[derive(Clone, Copy, Debug, PartialEq, Eq, PartialOrd, Ord)]
+#[derive(Clone, Copy, Debug, PartialEq, Eq)]
 pub enum RuleId {
     /// The body is no JSON text whose numbers are whole and whose texts hold no zero byte.
     InvalidBody,

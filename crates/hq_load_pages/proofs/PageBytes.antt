@@ -5,8 +5,8 @@ use Rattle.std.specs.Str.{bytes_eq}
 use Rattle.std.specs.List.{list_all}
 use Rattle.std.specs.Cmp.Lexicographic.{bytes_decides}
 use Rattle.std.proofs.lemmas.List.{take_at, drop_at}
-use Rattle.hq_load_pages.specs.Pages.{header_of, page_of, piece_of}
-use Rattle.hq_load_pages.specs.declared.due.Due.{Due}
+use Rattle.hq_load_pages.specs.Pages.{bytes_of_header, page_of, piece_of}
+use Rattle.hq_load_pages.specs.declared.header.Header.{Header}
 
 -- so many zeros
 zeros : (n : ℕ) → list_all (λ b. nat_eq b 0) (replicate n 0) ≡ true
@@ -32,9 +32,9 @@ parts_back h p z n long few whole free =
     rw (whole, take_at h (p ++ z) 10 long, (bytes_decides h h).1 refl, behind h p z n long few, free, drop_at h (p ++ z) 10 long, take_at p z n few) refl
 
 -- the bytes of a page
-page_long : (d : Due) (p : List ℕ) → length p ≤ 4086 → length (page_of d p) ≡ 4096
-page_long d p few = omega (arith, length-append (header_of d) (p ++ replicate (4086 - length p) 0), length-append p (replicate (4086 - length p) 0), zeros_long (4086 - length p), few)
+page_long : (d : Header) (p : List ℕ) → length p ≤ 4086 → length (page_of d p) ≡ 4096
+page_long d p few = omega (arith, length-append (bytes_of_header d) (p ++ replicate (4086 - length p) 0), length-append p (replicate (4086 - length p) 0), zeros_long (4086 - length p), few)
 
 -- a page gives its piece back
-pub page_back : (d : Due) (p : List ℕ) → length p ≡ d.length → length p ≤ 4086 → piece_of d (page_of d p) ≡ Some p
-page_back d p few within = parts_back (header_of d) p (replicate (4086 - length p) 0) d.length refl few (page_long d p within) (zeros (4086 - length p))
+pub page_back : (d : Header) (p : List ℕ) → length p ≡ d.length → length p ≤ 4086 → piece_of d (page_of d p) ≡ Some p
+page_back d p few within = parts_back (bytes_of_header d) p (replicate (4086 - length p) 0) d.length refl few (page_long d p within) (zeros (4086 - length p))

@@ -7,7 +7,7 @@ use Rattle.hq_load_pages.specs.Touch.{touched, touched_from, misses, missed_from
 use Rattle.std.specs.Option.{option_and_then}
 use Rattle.std.proofs.lemmas.List.{append-nil}
 use Rattle.hq_load_pages.specs.Held.{due_piece, due_run, WhereTold}
-use Rattle.hq_load_pages.specs.declared.due.Due.{Due}
+use Rattle.hq_load_pages.specs.declared.header.Header.{Header}
 
 -- a page in the list is not read
 pub no_miss : (page : ℕ) (pages : List ℕ) → list_any (nat_eq page) pages ≡ true → misses page pages ≡ 0
@@ -83,66 +83,66 @@ refused_at first done room most pages now new few e (inr f) = (done + 1, omega (
 -- ---- the run of pages
 
 -- the run of pages of which the first has this piece
-run_behind : (dues : List Due) (held : List ℕ) (first left : ℕ) (piece : List ℕ) → 0 < left → due_piece dues held first ≡ Some piece
-    → due_run dues held first left ≡ option_map (λ run. piece ++ run) (due_run dues held (first + 1) (left - 1))
-run_behind dues held first zero piece some e = absurd (omega (arith, some))
-run_behind dues held first (suc n) piece some e =
+run_behind : (headers : List Header) (held : List ℕ) (first left : ℕ) (piece : List ℕ) → 0 < left → due_piece headers held first ≡ Some piece
+    → due_run headers held first left ≡ option_map (λ run. piece ++ run) (due_run headers held (first + 1) (left - 1))
+run_behind headers held first zero piece some e = absurd (omega (arith, some))
+run_behind headers held first (suc n) piece some e =
     let next : suc first ≡ first + 1 = omega arith in
     let less : n ≡ suc n - 1 = omega arith in
-    ap (option_and_then (λ p. option_map (λ run. p ++ run) (due_run dues held (suc first) n))) e
-    ∙ ap (λ (at : ℕ). option_map (λ run. piece ++ run) (due_run dues held at n)) next ∙ ap (λ (k : ℕ). option_map (λ run. piece ++ run) (due_run dues held (first + 1) k)) less
+    ap (option_and_then (λ p. option_map (λ run. p ++ run) (due_run headers held (suc first) n))) e
+    ∙ ap (λ (at : ℕ). option_map (λ run. piece ++ run) (due_run headers held at n)) next ∙ ap (λ (k : ℕ). option_map (λ run. piece ++ run) (due_run headers held (first + 1) k)) less
 
 -- a piece more
 map_behind : (run piece : List ℕ) (o : Option (List ℕ)) → option_map (λ rest. run ++ rest) (option_map (λ rest. piece ++ rest) o) ≡ option_map (λ rest. (run ++ piece) ++ rest) o
 map_behind run piece None = refl
 map_behind run piece (Some rest) = ap Some (sym (append_assoc run piece rest))
 
-pub next_run : (dues : List Due) (told : Option (List ℕ)) (first done count : ℕ) (run new piece : List ℕ) → done < count
-    → new ≡ run ++ piece → WhereTold told (λ held. due_piece dues held (first + done) ≡ Some piece)
-    → WhereTold told (λ held. due_run dues held first count ≡ option_map (λ rest. run ++ rest) (due_run dues held (first + done) (count - done)))
-    → WhereTold told (λ held. due_run dues held first count ≡ option_map (λ rest. new ++ rest) (due_run dues held (first + (done + 1)) (count - (done + 1))))
-next_run dues told first done count run new piece lt is_new due so_far held is =
+pub next_run : (headers : List Header) (told : Option (List ℕ)) (first done count : ℕ) (run new piece : List ℕ) → done < count
+    → new ≡ run ++ piece → WhereTold told (λ held. due_piece headers held (first + done) ≡ Some piece)
+    → WhereTold told (λ held. due_run headers held first count ≡ option_map (λ rest. run ++ rest) (due_run headers held (first + done) (count - done)))
+    → WhereTold told (λ held. due_run headers held first count ≡ option_map (λ rest. new ++ rest) (due_run headers held (first + (done + 1)) (count - (done + 1))))
+next_run headers told first done count run new piece lt is_new due so_far held is =
     let at : first + done + 1 ≡ first + (done + 1) = omega arith in
     let left : count - done - 1 ≡ count - (done + 1) = omega (arith, lt) in
-    so_far held is ∙ ap (option_map (λ rest. run ++ rest)) (run_behind dues held (first + done) (count - done) piece (omega (arith, lt)) (due held is))
-    ∙ map_behind run piece (due_run dues held (first + done + 1) (count - done - 1))
-    ∙ ap (λ (xs : List ℕ). option_map (λ rest. xs ++ rest) (due_run dues held (first + done + 1) (count - done - 1))) (sym is_new)
-    ∙ ap (λ (k : ℕ). option_map (λ rest. new ++ rest) (due_run dues held k (count - done - 1))) at
-    ∙ ap (λ (k : ℕ). option_map (λ rest. new ++ rest) (due_run dues held (first + (done + 1)) k)) left
+    so_far held is ∙ ap (option_map (λ rest. run ++ rest)) (run_behind headers held (first + done) (count - done) piece (omega (arith, lt)) (due held is))
+    ∙ map_behind run piece (due_run headers held (first + done + 1) (count - done - 1))
+    ∙ ap (λ (xs : List ℕ). option_map (λ rest. xs ++ rest) (due_run headers held (first + done + 1) (count - done - 1))) (sym is_new)
+    ∙ ap (λ (k : ℕ). option_map (λ rest. new ++ rest) (due_run headers held k (count - done - 1))) at
+    ∙ ap (λ (k : ℕ). option_map (λ rest. new ++ rest) (due_run headers held (first + (done + 1)) k)) left
 
 -- no page is left
-pub whole_run : (dues : List Due) (told : Option (List ℕ)) (first done count : ℕ) (run : List ℕ) → count ≤ done
+pub whole_run : (headers : List Header) (told : Option (List ℕ)) (first done count : ℕ) (run : List ℕ) → count ≤ done
     → WhereTold told
-    (λ held. due_run dues held first count ≡ option_map (λ rest. run ++ rest) (due_run dues held (first + done) (count - done)))
-    → WhereTold told (λ held. due_run dues held first count ≡ Some run)
-whole_run dues told first done count run le so_far held is =
+    (λ held. due_run headers held first count ≡ option_map (λ rest. run ++ rest) (due_run headers held (first + done) (count - done)))
+    → WhereTold told (λ held. due_run headers held first count ≡ Some run)
+whole_run headers told first done count run le so_far held is =
     let none : count - done ≡ 0 = omega (arith, le) in
-    so_far held is ∙ ap (λ (k : ℕ). option_map (λ rest. run ++ rest) (due_run dues held (first + done) k)) none ∙ ap Some (append-nil run)
+    so_far held is ∙ ap (λ (k : ℕ). option_map (λ rest. run ++ rest) (due_run headers held (first + done) k)) none ∙ ap Some (append-nil run)
 
 -- nothing was read yet
-pub first_run : (dues : List Due) (told : Option (List ℕ)) (first count : ℕ)
-    → WhereTold told (λ held. due_run dues held first count ≡ option_map (λ rest. [] ++ rest) (due_run dues held (first + 0) (count - 0)))
-first_run dues told first count held is =
+pub first_run : (headers : List Header) (told : Option (List ℕ)) (first count : ℕ)
+    → WhereTold told (λ held. due_run headers held first count ≡ option_map (λ rest. [] ++ rest) (due_run headers held (first + 0) (count - 0)))
+first_run headers told first count held is =
     let at : first ≡ first + 0 = omega arith in
     let left : count ≡ count - 0 = omega arith in
-    same (due_run dues held first count) ∙ ap (λ (k : ℕ). option_map (λ rest. [] ++ rest) (due_run dues held k count)) at
-    ∙ ap (λ (k : ℕ). option_map (λ rest. [] ++ rest) (due_run dues held (first + 0) k)) left
+    same (due_run headers held first count) ∙ ap (λ (k : ℕ). option_map (λ rest. [] ++ rest) (due_run headers held k count)) at
+    ∙ ap (λ (k : ℕ). option_map (λ rest. [] ++ rest) (due_run headers held (first + 0) k)) left
   where
     same : (o : Option (List ℕ)) → o ≡ option_map (λ (rest : List ℕ). [] ++ rest) o
     same None = refl
     same (Some rest) = refl
 
 -- a page that is not due
-pub broken_run : (dues : List Due) (told : Option (List ℕ)) (first done count : ℕ) (run : List ℕ) → done < count → WhereTold told (λ held. due_piece dues held (first + done) ≡ None)
+pub broken_run : (headers : List Header) (told : Option (List ℕ)) (first done count : ℕ) (run : List ℕ) → done < count → WhereTold told (λ held. due_piece headers held (first + done) ≡ None)
     → WhereTold told
-    (λ held. due_run dues held first count ≡ option_map (λ rest. run ++ rest) (due_run dues held (first + done) (count - done)))
-    → WhereTold told (λ held. due_run dues held first count ≡ None)
-broken_run dues told first done count run lt broken so_far held is =
+    (λ held. due_run headers held first count ≡ option_map (λ rest. run ++ rest) (due_run headers held (first + done) (count - done)))
+    → WhereTold told (λ held. due_run headers held first count ≡ None)
+broken_run headers told first done count run lt broken so_far held is =
     so_far held is ∙ ap (option_map (λ rest. run ++ rest)) (none (first + done) (count - done) (omega (arith, lt)) (broken held is))
   where
-    none : (at left : ℕ) → 0 < left → due_piece dues held at ≡ None → due_run dues held at left ≡ None
+    none : (at left : ℕ) → 0 < left → due_piece headers held at ≡ None → due_run headers held at left ≡ None
     none at zero some e = absurd (omega (arith, some))
-    none at (suc n) some e = ap (option_and_then (λ p. option_map (λ run. p ++ run) (due_run dues held (suc at) n))) e
+    none at (suc n) some e = ap (option_and_then (λ p. option_map (λ run. p ++ run) (due_run headers held (suc at) n))) e
 
 -- what always holds holds at a refusal
 pub on_err : {T E P : Type 0} (r : Result T E) → P → OnErr r P

@@ -10,7 +10,7 @@ use Rattle.std.proofs.lemmas.Bool.{and_from, and_parts, eqb-true, false≢true}
 use Rattle.lru.specs.LruCache.{lru_cache, promoted, put_entries}
 use Rattle.hq_load_pages.specs.Held.{are_pieces, due_piece, is_piece, page_at, WhereTold}
 use Rattle.hq_load_pages.specs.Pages.{piece_of}
-use Rattle.hq_load_pages.specs.declared.due.Due.{Due}
+use Rattle.hq_load_pages.specs.declared.header.Header.{Header}
 use Rattle.hq_load_pages.proofs.Keys.{any_if_found, no_entry}
 
 -- ---- tests of all entries
@@ -42,9 +42,9 @@ all_promoted f p es (Some x) h e = and_from (f x) (list_all f (remove_entry (nat
 
 -- ---- pieces
 
-pub pieces_promoted : {V : Type 0} (bytes : V → List ℕ) (dues : List Due) (held : List ℕ) (p : ℕ) (es : List (ℕ × V))
-    → are_pieces bytes dues held es ≡ true → are_pieces bytes dues held (promoted (nat_eq p) es) ≡ true
-pieces_promoted bytes dues held p es e = all_promoted (λ x. is_piece (due_piece dues held x.0) (bytes x.1)) p es (lookup_entry (nat_eq p) es) refl e
+pub pieces_promoted : {V : Type 0} (bytes : V → List ℕ) (headers : List Header) (held : List ℕ) (p : ℕ) (es : List (ℕ × V))
+    → are_pieces bytes headers held es ≡ true → are_pieces bytes headers held (promoted (nat_eq p) es) ≡ true
+pieces_promoted bytes headers held p es e = all_promoted (λ x. is_piece (due_piece headers held x.0) (bytes x.1)) p es (lookup_entry (nat_eq p) es) refl e
 
 -- bytes that are a piece
 piece_is : (o : Option (List ℕ)) (b : List ℕ) → is_piece o b ≡ true → o ≡ Some b
@@ -56,58 +56,58 @@ is_due None b e = cc
 is_due (Some p) b e = let same : p ≡ b = cc in (bytes_decides p b).1 same
 
 -- what a look-up finds is the due piece
-pub found_piece : {V : Type 0} (bytes : V → List ℕ) (dues : List Due) (held : List ℕ) (p : ℕ) (es : List (ℕ × V)) (b : List ℕ)
-    → are_pieces bytes dues held es ≡ true → Some b ≡ option_map bytes (lookup (nat_eq p) es) → due_piece dues held p ≡ Some b
-found_piece bytes dues held p [] b e h = cc
-found_piece bytes dues held p (x ∷ es) b e h =
-    let both = and_parts (is_piece (due_piece dues held x.0) (bytes x.1)) (are_pieces bytes dues held es) e in (elim (nat_eq p x.0) as
-    (λ c. nat_eq p x.0 ≡ c → due_piece dues held p ≡ Some b) [
+pub found_piece : {V : Type 0} (bytes : V → List ℕ) (headers : List Header) (held : List ℕ) (p : ℕ) (es : List (ℕ × V)) (b : List ℕ)
+    → are_pieces bytes headers held es ≡ true → Some b ≡ option_map bytes (lookup (nat_eq p) es) → due_piece headers held p ≡ Some b
+found_piece bytes headers held p [] b e h = cc
+found_piece bytes headers held p (x ∷ es) b e h =
+    let both = and_parts (is_piece (due_piece headers held x.0) (bytes x.1)) (are_pieces bytes headers held es) e in (elim (nat_eq p x.0) as
+    (λ c. nat_eq p x.0 ≡ c → due_piece headers held p ≡ Some b) [
       | true ↦ λ t.
           let key : p ≡ x.0 = eqb-true p x.0 t in
           let h' = rw t at h in
           let same : bytes x.1 ≡ b = cc in
-          ap (due_piece dues held) key ∙ piece_is (due_piece dues held x.0) (bytes x.1) both.0 ∙ ap Some same
-      | false ↦ λ t. found_piece bytes dues held p es b both.1 (rw t at h)
+          ap (due_piece headers held) key ∙ piece_is (due_piece headers held x.0) (bytes x.1) both.0 ∙ ap Some same
+      | false ↦ λ t. found_piece bytes headers held p es b both.1 (rw t at h)
     ]) refl
 
 -- a due piece is put
-pub pieces_put : {V : Type 0} (bytes : V → List ℕ) (dues : List Due) (held : List ℕ) (p : ℕ) (v : V) (cap : ℕ) (es : List (ℕ × V))
-    → are_pieces bytes dues held es ≡ true → list_any (nat_eq p) (keys_of es) ≡ false → due_piece dues held p ≡ Some (bytes v)
-    → are_pieces bytes dues held (put_entries nat_eq (lru_cache es cap) p v) ≡ true
-pieces_put bytes dues held p v cap es e none due =
+pub pieces_put : {V : Type 0} (bytes : V → List ℕ) (headers : List Header) (held : List ℕ) (p : ℕ) (v : V) (cap : ℕ) (es : List (ℕ × V))
+    → are_pieces bytes headers held es ≡ true → list_any (nat_eq p) (keys_of es) ≡ false → due_piece headers held p ≡ Some (bytes v)
+    → are_pieces bytes headers held (put_entries nat_eq (lru_cache es cap) p v) ≡ true
+pieces_put bytes headers held p v cap es e none due =
     rw (no_entry p es (any_if_found p es ∙ none))
-    (and_from (is_piece (due_piece dues held p) (bytes v)) (are_pieces bytes dues held (take (cap - 1) es))
-    (is_due (due_piece dues held p) (bytes v) due) (all_take (λ x. is_piece (due_piece dues held x.0) (bytes x.1)) (cap - 1) es e))
+    (and_from (is_piece (due_piece headers held p) (bytes v)) (are_pieces bytes headers held (take (cap - 1) es))
+    (is_due (due_piece headers held p) (bytes v) due) (all_take (λ x. is_piece (due_piece headers held x.0) (bytes x.1)) (cap - 1) es e))
 
 -- the piece of a page, by the due at its place
-pub due_there : (dues : List Due) (held : List ℕ) (page : ℕ) (d : Due) (o : Option (List ℕ)) → page < length dues → piece_of (get_or dues page d) (page_at held page) ≡ o → due_piece dues held page ≡ o
-due_there dues held page d o lt e = ap (option_and_then (λ due. piece_of due (page_at held page))) (at dues page lt) ∙ e
+pub due_there : (headers : List Header) (held : List ℕ) (page : ℕ) (d : Header) (o : Option (List ℕ)) → page < length headers → piece_of (get_or headers page d) (page_at held page) ≡ o → due_piece headers held page ≡ o
+due_there headers held page d o lt e = ap (option_and_then (λ due. piece_of due (page_at held page))) (at headers page lt) ∙ e
   where
-    at : (xs : List Due) (i : ℕ) → i < length xs → slice_get xs i ≡ Some (get_or xs i d)
+    at : (xs : List Header) (i : ℕ) → i < length xs → slice_get xs i ≡ Some (get_or xs i d)
     at [] i lt = absurd (omega (arith, lt))
     at (x ∷ xs) zero lt = refl
     at (x ∷ xs) (suc i) lt = at xs i (omega (arith, lt))
 
 -- ---- the same where the disk tells its bytes
 
-pub told_promoted : {V : Type 0} (bytes : V → List ℕ) (dues : List Due) (told : Option (List ℕ)) (p : ℕ) (es new : List (ℕ × V))
-    → WhereTold told (λ held. are_pieces bytes dues held es ≡ true) → new ≡ promoted (nat_eq p) es
-    → WhereTold told (λ held. are_pieces bytes dues held new ≡ true)
-told_promoted bytes dues told p es new all e held is = ap (are_pieces bytes dues held) e ∙ pieces_promoted bytes dues held p es (all held is)
+pub told_promoted : {V : Type 0} (bytes : V → List ℕ) (headers : List Header) (told : Option (List ℕ)) (p : ℕ) (es new : List (ℕ × V))
+    → WhereTold told (λ held. are_pieces bytes headers held es ≡ true) → new ≡ promoted (nat_eq p) es
+    → WhereTold told (λ held. are_pieces bytes headers held new ≡ true)
+told_promoted bytes headers told p es new all e held is = ap (are_pieces bytes headers held) e ∙ pieces_promoted bytes headers held p es (all held is)
 
-pub told_found : {V : Type 0} (bytes : V → List ℕ) (dues : List Due) (told : Option (List ℕ)) (p : ℕ) (es : List (ℕ × V)) (b : List ℕ)
-    → WhereTold told (λ held. are_pieces bytes dues held es ≡ true) → Some b ≡ option_map bytes (lookup (nat_eq p) es)
-    → WhereTold told (λ held. due_piece dues held p ≡ Some b)
-told_found bytes dues told p es b all e held is = found_piece bytes dues held p es b (all held is) e
+pub told_found : {V : Type 0} (bytes : V → List ℕ) (headers : List Header) (told : Option (List ℕ)) (p : ℕ) (es : List (ℕ × V)) (b : List ℕ)
+    → WhereTold told (λ held. are_pieces bytes headers held es ≡ true) → Some b ≡ option_map bytes (lookup (nat_eq p) es)
+    → WhereTold told (λ held. due_piece headers held p ≡ Some b)
+told_found bytes headers told p es b all e held is = found_piece bytes headers held p es b (all held is) e
 
-pub told_put : {V : Type 0} (bytes : V → List ℕ) (dues : List Due) (told : Option (List ℕ)) (p : ℕ) (v : V) (cap : ℕ)
+pub told_put : {V : Type 0} (bytes : V → List ℕ) (headers : List Header) (told : Option (List ℕ)) (p : ℕ) (v : V) (cap : ℕ)
     (es new : List (ℕ × V))
-    → WhereTold told (λ held. are_pieces bytes dues held es ≡ true) → list_any (nat_eq p) (keys_of es) ≡ false
-    → WhereTold told (λ held. due_piece dues held p ≡ Some (bytes v)) → new ≡ put_entries nat_eq (lru_cache es cap) p v → WhereTold told (λ held. are_pieces bytes dues held new ≡ true)
-told_put bytes dues told p v cap es new all none due e held is = ap (are_pieces bytes dues held) e ∙ pieces_put bytes dues held p v cap es (all held is) none (due held is)
+    → WhereTold told (λ held. are_pieces bytes headers held es ≡ true) → list_any (nat_eq p) (keys_of es) ≡ false
+    → WhereTold told (λ held. due_piece headers held p ≡ Some (bytes v)) → new ≡ put_entries nat_eq (lru_cache es cap) p v → WhereTold told (λ held. are_pieces bytes headers held new ≡ true)
+told_put bytes headers told p v cap es new all none due e held is = ap (are_pieces bytes headers held) e ∙ pieces_put bytes headers held p v cap es (all held is) none (due held is)
 
 -- the piece of a page that was read
-pub told_due : (dues : List Due) (told : Option (List ℕ)) (page : ℕ) (d : Due) (got : List ℕ) (o : Option (List ℕ)) → page < length dues
-    → WhereTold told (λ held. got ≡ page_at held page) → piece_of (get_or dues page d) got ≡ o
-    → WhereTold told (λ held. due_piece dues held page ≡ o)
-told_due dues told page d got o lt read e held is = due_there dues held page d o lt (ap (piece_of (get_or dues page d)) (sym (read held is)) ∙ e)
+pub told_due : (headers : List Header) (told : Option (List ℕ)) (page : ℕ) (d : Header) (got : List ℕ) (o : Option (List ℕ)) → page < length headers
+    → WhereTold told (λ held. got ≡ page_at held page) → piece_of (get_or headers page d) got ≡ o
+    → WhereTold told (λ held. due_piece headers held page ≡ o)
+told_due headers told page d got o lt read e held is = due_there headers held page d o lt (ap (piece_of (get_or headers page d)) (sym (read held is)) ∙ e)

@@ -13,7 +13,7 @@ use Rattle.hq_load_pages.specs.Held.{WhereTold}
 use Rattle.hq_load_pages.specs.Counts.{more, Rises}
 use Rattle.hq_load_pages.specs.Pins.{pin_at, PinsFit, PinsOf}
 use Rattle.hq_load_pages.specs.Touch.{missed_from, touched_from, TouchesSome}
-use Rattle.hq_load_pages.specs.declared.due.Due.{Due}
+use Rattle.hq_load_pages.specs.declared.header.Header.{Header}
 use Rattle.hq_load_pages.specs.declared.table_run.TableRun.{TableRun}
 
 -- ---- places of lists
@@ -70,32 +70,32 @@ table_few tables (x ∷ some) (suc t) table e lt is = let both = and_parts (is_t
 -- ---- what is read of all tables and of one
 
 -- what is read of all tables has what is read of each
-read_at : (dues : List Due) (held : List ℕ) (ts : List Table) (runs : List TableRun) (all : List (List Row)) (t : ℕ) (table : Table)
+read_at : (headers : List Header) (held : List ℕ) (ts : List Table) (runs : List TableRun) (all : List (List Row)) (t : ℕ) (table : Table)
     (run : TableRun)
-    → tables_read dues held ts runs ≡ Some all → t < length ts → slice_get ts t ≡ Some table → slice_get runs t ≡ Some run
-    → table_read dues held table run ≡ Some (slice_index_or all t [])
-read_at dues held [] runs all t table run e lt is at = absurd (omega (arith, lt))
-read_at dues held (x ∷ ts) [] all t table run e lt is at = cc
-read_at dues held (x ∷ ts) (r ∷ runs) all t table run e lt is at =
-    by (table_read dues held x r) (tables_read dues held ts runs) refl refl e (λ rest i f. read_at dues held ts runs rest i table run f) t lt is at
+    → tables_read headers held ts runs ≡ Some all → t < length ts → slice_get ts t ≡ Some table → slice_get runs t ≡ Some run
+    → table_read headers held table run ≡ Some (slice_index_or all t [])
+read_at headers held [] runs all t table run e lt is at = absurd (omega (arith, lt))
+read_at headers held (x ∷ ts) [] all t table run e lt is at = cc
+read_at headers held (x ∷ ts) (r ∷ runs) all t table run e lt is at =
+    by (table_read headers held x r) (tables_read headers held ts runs) refl refl e (λ rest i f. read_at headers held ts runs rest i table run f) t lt is at
   where
-    by : (o : Option (List Row)) (p : Option (List (List Row))) → table_read dues held x r ≡ o → tables_read dues held ts runs ≡ p
+    by : (o : Option (List Row)) (p : Option (List (List Row))) → table_read headers held x r ≡ o → tables_read headers held ts runs ≡ p
         → option_and_then (λ rows. option_map (λ all. rows ∷ all) p) o ≡ Some all
         →
-        ((rest : List (List Row)) (i : ℕ) → tables_read dues held ts runs ≡ Some rest → i < length ts → slice_get ts i ≡ Some table
-        → slice_get runs i ≡ Some run → table_read dues held table run ≡ Some (slice_index_or rest i []))
+        ((rest : List (List Row)) (i : ℕ) → tables_read headers held ts runs ≡ Some rest → i < length ts → slice_get ts i ≡ Some table
+        → slice_get runs i ≡ Some run → table_read headers held table run ≡ Some (slice_index_or rest i []))
         → (t : ℕ) → t < length (x ∷ ts) → slice_get (x ∷ ts) t ≡ Some table → slice_get (r ∷ runs) t ≡ Some run
-        → table_read dues held table run ≡ Some (slice_index_or all t [])
+        → table_read headers held table run ≡ Some (slice_index_or all t [])
     by None p e f g later t lt is at = cc
     by (Some rows) None e f g later t lt is at = cc
     by (Some rows) (Some rest) e f g later zero lt is at = let same : rows ∷ rest ≡ all = cc in let here : x ≡ table = cc in let there : r ≡ run = cc in rw (← same, ← here, ← there) e
     by (Some rows) (Some rest) e f g later (suc t) lt is at = let same : rows ∷ rest ≡ all = cc in rw (← same) (later rest t f (omega (arith, lt)) is at)
 
 -- where all tables read as a database, each reads as rows of its own
-reads_at : (dues : List Due) (held : List ℕ) (ts : List Table) (runs : List TableRun) (t : ℕ) (table : Table) (run : TableRun)
-    → reads_database ts (tables_read dues held ts runs) ≡ true → t < length ts → slice_get ts t ≡ Some table → slice_get runs t ≡ Some run
-    → reads_rows table (table_read dues held table run) ≡ true
-reads_at dues held ts runs t table run e lt is at = by (tables_read dues held ts runs) refl e
+reads_at : (headers : List Header) (held : List ℕ) (ts : List Table) (runs : List TableRun) (t : ℕ) (table : Table) (run : TableRun)
+    → reads_database ts (tables_read headers held ts runs) ≡ true → t < length ts → slice_get ts t ≡ Some table → slice_get runs t ≡ Some run
+    → reads_rows table (table_read headers held table run) ≡ true
+reads_at headers held ts runs t table run e lt is at = by (tables_read headers held ts runs) refl e
   where
     valid : (ts : List Table) (all : List (List Row)) (t : ℕ) → is_database ts all ≡ true → t < length ts → slice_get ts t ≡ Some table → are_rows table (slice_index_or all t []) ≡ true
     valid [] all t e lt is = absurd (omega (arith, lt))
@@ -103,9 +103,9 @@ reads_at dues held ts runs t table run e lt is at = by (tables_read dues held ts
     valid (x ∷ ts) (rows ∷ all) zero e lt is = let both = and_parts (are_rows x rows) (is_database ts all) e in let here : x ≡ table = cc in rw (← here) both.0
     valid (x ∷ ts) (rows ∷ all) (suc t) e lt is = let both = and_parts (are_rows x rows) (is_database ts all) e in valid ts all t both.1 (omega (arith, lt)) is
 
-    by : (o : Option (List (List Row))) → tables_read dues held ts runs ≡ o → reads_database ts o ≡ true → reads_rows table (table_read dues held table run) ≡ true
+    by : (o : Option (List (List Row))) → tables_read headers held ts runs ≡ o → reads_database ts o ≡ true → reads_rows table (table_read headers held table run) ≡ true
     by None f e = absurd (false≢true e)
-    by (Some all) f e = rw (read_at dues held ts runs all t table run f lt is at) (valid ts all t e lt is)
+    by (Some all) f e = rw (read_at headers held ts runs all t table run f lt is at) (valid ts all t e lt is)
 
 -- ---- what is known of a store after a pin
 
@@ -123,16 +123,16 @@ pins_fit tables pins t table rows fit lt is valid u other others there pin = eli
   | inr ne ↦ fit u other others there (sym (set_other pins t u (Some rows) None ne.1) ∙ pin)
 ]
 
-pub pins_of : (told : Option (List ℕ)) (dues : List Due) (tables : List Table) (runs : List TableRun) (pins : List (Option (List Row))) (t : ℕ) (table : Table) (run : TableRun) (rows : List Row)
-    → WhereTold told (λ held. PinsOf (tables_read dues held tables runs) pins) → t < length pins → t < length tables
-    → slice_get tables t ≡ Some table → slice_get runs t ≡ Some run → WhereTold told (λ held. table_read dues held table run ≡ Some rows)
-    → WhereTold told (λ held. PinsOf (tables_read dues held tables runs) (slice_set pins t (Some rows)))
-pins_of told dues tables runs pins t table run rows old lt inside is at read held is_held all u others e pin = elim (eqb_tells u t) [
+pub pins_of : (told : Option (List ℕ)) (headers : List Header) (tables : List Table) (runs : List TableRun) (pins : List (Option (List Row))) (t : ℕ) (table : Table) (run : TableRun) (rows : List Row)
+    → WhereTold told (λ held. PinsOf (tables_read headers held tables runs) pins) → t < length pins → t < length tables
+    → slice_get tables t ≡ Some table → slice_get runs t ≡ Some run → WhereTold told (λ held. table_read headers held table run ≡ Some rows)
+    → WhereTold told (λ held. PinsOf (tables_read headers held tables runs) (slice_set pins t (Some rows)))
+pins_of told headers tables runs pins t table run rows old lt inside is at read held is_held all u others e pin = elim (eqb_tells u t) [
   | inl same ↦ (
       let here : u ≡ t = same.1 in
       let pin' : Some rows ≡ Some others = sym (set_here pins t (Some rows) None lt) ∙ ap (pin_at (slice_set pins t (Some rows))) (sym here) ∙ pin in
       let one : rows ≡ others = cc in
-      let both : Some rows ≡ Some (slice_index_or all t []) = sym (read held is_held) ∙ read_at dues held tables runs all t table run e inside is at in
+      let both : Some rows ≡ Some (slice_index_or all t []) = sym (read held is_held) ∙ read_at headers held tables runs all t table run e inside is at in
       let found : rows ≡ slice_index_or all t [] = cc in
       sym one ∙ found ∙ ap (λ n. slice_index_or all n []) (sym here)
       )
@@ -144,13 +144,13 @@ pub moved : {P : List ℕ → Type 0} (old new : Option (List ℕ)) → new ≡ 
 moved old new e h held is = h held (sym e ∙ is)
 
 -- over a told disk each table reads
-pub never_broken : (told : Option (List ℕ)) (dues : List Due) (tables : List Table) (runs : List TableRun) (t : ℕ) (table : Table)
+pub never_broken : (told : Option (List ℕ)) (headers : List Header) (tables : List Table) (runs : List TableRun) (t : ℕ) (table : Table)
     (run : TableRun) (n : ℕ)
-    → WhereTold told (λ held. reads_database tables (tables_read dues held tables runs) ≡ true) → t < length tables
+    → WhereTold told (λ held. reads_database tables (tables_read headers held tables runs) ≡ true) → t < length tables
     → slice_get tables t ≡ Some table → slice_get runs t ≡ Some run
-    → WhereTold told (λ held. reads_rows table (table_read dues held table run) ≡ false) → WhereTold told (λ _. n ≡ 0)
-never_broken told dues tables runs t table run n readable lt is at broken held is_held =
-    absurd (false≢true (sym (broken held is_held) ∙ reads_at dues held tables runs t table run (readable held is_held) lt is at))
+    → WhereTold told (λ held. reads_rows table (table_read headers held table run) ≡ false) → WhereTold told (λ _. n ≡ 0)
+never_broken told headers tables runs t table run n readable lt is at broken held is_held =
+    absurd (false≢true (sym (broken held is_held) ∙ reads_at headers held tables runs t table run (readable held is_held) lt is at))
 
 -- ---- the run of one table
 

@@ -12,9 +12,9 @@ use Rattle.hq_model.specs.declared.table.Table.{Table}
 use Rattle.hq_load_pages.specs.Directory.{are_inside, rows_of_run, table_read, tables_read}
 use Rattle.hq_load_pages.specs.DiskPages.{Grows, disk_pages, page_bytes, pages_from, rows_bytes, run_pages}
 use Rattle.hq_load_pages.specs.Held.{due_piece, due_run, page_at, WhereTold}
-use Rattle.hq_load_pages.specs.Pages.{header_bytes, header_of, page_of, piece_of}
+use Rattle.hq_load_pages.specs.Pages.{header_bytes, bytes_of_header, page_of, piece_of}
 use Rattle.hq_load_pages.specs.Writes.{Stores, Wrote, WroteRows}
-use Rattle.hq_load_pages.specs.declared.due.Due.{Due}
+use Rattle.hq_load_pages.specs.declared.header.Header.{Header}
 use Rattle.hq_load_pages.specs.declared.table_run.TableRun.{TableRun}
 
 -- ---- what stands at a place stays there
@@ -35,24 +35,24 @@ get_stays (y ∷ xs) ys zero x e = e
 get_stays (y ∷ xs) ys (suc i) x e = get_stays xs ys i x e
 
 -- a page that is due is whole
-page_whole : (d : Due) (page x : List ℕ) → piece_of d page ≡ Some x → length page ≡ 4096
+page_whole : (d : Header) (page x : List ℕ) → piece_of d page ≡ Some x → length page ≡ 4096
 page_whole d page x e = by (nat_eq (length page) 4096) refl e
   where
     by : (b : Bool) → nat_eq (length page) 4096 ≡ b
-        → cond (b && bytes_eq (take 10 page) (header_of d) && list_all (λ b. nat_eq b 0) (drop (10 + d.length) page))
+        → cond (b && bytes_eq (take 10 page) (bytes_of_header d) && list_all (λ b. nat_eq b 0) (drop (10 + d.length) page))
         (Some (take d.length (drop 10 page))) None
         ≡ Some x
         → length page ≡ 4096
     by true is e = eqb-true (length page) 4096 is
     by false is e = cc
 
-piece_stays : (dues ds : List Due) (held more : List ℕ) (p : ℕ) (x : List ℕ) → due_piece dues held p ≡ Some x → due_piece (dues ++ ds) (held ++ more) p ≡ Some x
-piece_stays dues ds held more p x e = by (slice_get dues p) refl e
+piece_stays : (headers ds : List Header) (held more : List ℕ) (p : ℕ) (x : List ℕ) → due_piece headers held p ≡ Some x → due_piece (headers ++ ds) (held ++ more) p ≡ Some x
+piece_stays headers ds held more p x e = by (slice_get headers p) refl e
   where
-    by : (o : Option Due) → slice_get dues p ≡ o → option_and_then (λ due. piece_of due (page_at held p)) o ≡ Some x → due_piece (dues ++ ds) (held ++ more) p ≡ Some x
+    by : (o : Option Header) → slice_get headers p ≡ o → option_and_then (λ due. piece_of due (page_at held p)) o ≡ Some x → due_piece (headers ++ ds) (held ++ more) p ≡ Some x
     by None is e = cc
     by (Some d) is e =
-        ap (option_and_then (λ due. piece_of due (page_at (held ++ more) p))) (get_stays dues ds p d is)
+        ap (option_and_then (λ due. piece_of due (page_at (held ++ more) p))) (get_stays headers ds p d is)
         ∙ ap (piece_of d) (drop_stays (4096 * p) 4095 held more (page_whole d (page_at held p) x e)) ∙ e
 
 -- the parts of a run
@@ -64,12 +64,12 @@ run_parts (Some a) (Some b) x e = (a, b, refl, refl, cc)
 run_whole : (o p : Option (List ℕ)) (a b : List ℕ) → o ≡ Some a → p ≡ Some b → option_and_then (λ piece. option_map (λ run. piece ++ run) p) o ≡ Some (a ++ b)
 run_whole o p a b e f = rw (e, f) refl
 
-run_stays : (dues ds : List Due) (held more : List ℕ) (f n : ℕ) (x : List ℕ) → due_run dues held f n ≡ Some x → due_run (dues ++ ds) (held ++ more) f n ≡ Some x
-run_stays dues ds held more f zero x e = e
-run_stays dues ds held more f (suc n) x e =
-    let parts = run_parts (due_piece dues held f) (due_run dues held (suc f) n) x e in
-    run_whole (due_piece (dues ++ ds) (held ++ more) f) (due_run (dues ++ ds) (held ++ more) (suc f) n) parts.0 parts.1
-    (piece_stays dues ds held more f parts.0 parts.2) (run_stays dues ds held more (suc f) n parts.1 parts.3) ∙ ap Some parts.4
+run_stays : (headers ds : List Header) (held more : List ℕ) (f n : ℕ) (x : List ℕ) → due_run headers held f n ≡ Some x → due_run (headers ++ ds) (held ++ more) f n ≡ Some x
+run_stays headers ds held more f zero x e = e
+run_stays headers ds held more f (suc n) x e =
+    let parts = run_parts (due_piece headers held f) (due_run headers held (suc f) n) x e in
+    run_whole (due_piece (headers ++ ds) (held ++ more) f) (due_run (headers ++ ds) (held ++ more) (suc f) n) parts.0 parts.1
+    (piece_stays headers ds held more f parts.0 parts.2) (run_stays headers ds held more (suc f) n parts.1 parts.3) ∙ ap Some parts.4
 
 -- ---- what is written behind
 
@@ -81,32 +81,32 @@ drop_behind : (xs ys : List ℕ) (i : ℕ) → drop (length xs + i) (xs ++ ys) �
 drop_behind [] ys i = let e : 0 + i ≡ i = omega arith in ap (λ (k : ℕ). drop k ys) e
 drop_behind (x ∷ xs) ys i = let e : suc (length xs) + i ≡ suc (length xs + i) = omega arith in ap (λ (k : ℕ). drop k (x ∷ (xs ++ ys))) e ∙ drop_behind xs ys i
 
-piece_behind : (dues ds : List Due) (held more : List ℕ) (i : ℕ) → length held ≡ 4096 * length dues → due_piece (dues ++ ds) (held ++ more) (length dues + i) ≡ due_piece ds more i
-piece_behind dues ds held more i long =
-    let at : 4096 * (length dues + i) ≡ length held + 4096 * i = omega (arith, long) in
-    ap (option_and_then (λ due. piece_of due (page_at (held ++ more) (length dues + i)))) (get_behind dues ds i)
+piece_behind : (headers ds : List Header) (held more : List ℕ) (i : ℕ) → length held ≡ 4096 * length headers → due_piece (headers ++ ds) (held ++ more) (length headers + i) ≡ due_piece ds more i
+piece_behind headers ds held more i long =
+    let at : 4096 * (length headers + i) ≡ length held + 4096 * i = omega (arith, long) in
+    ap (option_and_then (λ due. piece_of due (page_at (held ++ more) (length headers + i)))) (get_behind headers ds i)
     ∙ ap (λ (xs : List ℕ). option_and_then (λ due. piece_of due (take 4096 xs)) (slice_get ds i)) (ap (λ (k : ℕ). drop k (held ++ more)) at ∙ drop_behind held more (4096 * i))
 
-run_behind : (dues ds : List Due) (held more : List ℕ) (i n : ℕ) → length held ≡ 4096 * length dues → due_run (dues ++ ds) (held ++ more) (length dues + i) n ≡ due_run ds more i n
-run_behind dues ds held more i zero long = refl
-run_behind dues ds held more i (suc n) long =
-    let next : suc (length dues + i) ≡ length dues + suc i = omega arith in
-    ap₂ (λ o p. option_and_then (λ piece. option_map (λ run. piece ++ run) p) o) (piece_behind dues ds held more i long)
-    (ap (λ (k : ℕ). due_run (dues ++ ds) (held ++ more) k n) next ∙ run_behind dues ds held more (suc i) n long)
+run_behind : (headers ds : List Header) (held more : List ℕ) (i n : ℕ) → length held ≡ 4096 * length headers → due_run (headers ++ ds) (held ++ more) (length headers + i) n ≡ due_run ds more i n
+run_behind headers ds held more i zero long = refl
+run_behind headers ds held more i (suc n) long =
+    let next : suc (length headers + i) ≡ length headers + suc i = omega arith in
+    ap₂ (λ o p. option_and_then (λ piece. option_map (λ run. piece ++ run) p) o) (piece_behind headers ds held more i long)
+    (ap (λ (k : ℕ). due_run (headers ++ ds) (held ++ more) k n) next ∙ run_behind headers ds held more (suc i) n long)
 
 -- two runs, one behind the other
-run_join : (dues : List Due) (held : List ℕ) (f a b : ℕ) (x y : List ℕ) → due_run dues held f a ≡ Some x → due_run dues held (f + a) b ≡ Some y → due_run dues held f (a + b) ≡ Some (x ++ y)
-run_join dues held f zero b x y e g =
+run_join : (headers : List Header) (held : List ℕ) (f a b : ℕ) (x y : List ℕ) → due_run headers held f a ≡ Some x → due_run headers held (f + a) b ≡ Some y → due_run headers held f (a + b) ≡ Some (x ++ y)
+run_join headers held f zero b x y e g =
     let at : f ≡ f + 0 = omega arith in
     let count : 0 + b ≡ b = omega arith in
     let none : [] ≡ x = cc in
-    ap (λ (k : ℕ). due_run dues held f k) count ∙ ap (λ (k : ℕ). due_run dues held k b) at ∙ g ∙ ap (λ (xs : List ℕ). Some (xs ++ y)) none
-run_join dues held f (suc a) b x y e g =
-    let parts = run_parts (due_piece dues held f) (due_run dues held (suc f) a) x e in
+    ap (λ (k : ℕ). due_run headers held f k) count ∙ ap (λ (k : ℕ). due_run headers held k b) at ∙ g ∙ ap (λ (xs : List ℕ). Some (xs ++ y)) none
+run_join headers held f (suc a) b x y e g =
+    let parts = run_parts (due_piece headers held f) (due_run headers held (suc f) a) x e in
     let at : f + suc a ≡ suc f + a = omega arith in
     let count : suc a + b ≡ suc (a + b) = omega arith in
-    let later = run_join dues held (suc f) a b parts.1 y parts.3 (ap (λ (k : ℕ). due_run dues held k b) (sym at) ∙ g) in
-    ap (λ (k : ℕ). due_run dues held f k) count ∙ run_whole (due_piece dues held f) (due_run dues held (suc f) (a + b)) parts.0 (parts.1 ++ y) parts.2 later
+    let later = run_join headers held (suc f) a b parts.1 y parts.3 (ap (λ (k : ℕ). due_run headers held k b) (sym at) ∙ g) in
+    ap (λ (k : ℕ). due_run headers held f k) count ∙ run_whole (due_piece headers held f) (due_run headers held (suc f) (a + b)) parts.0 (parts.1 ++ y) parts.2 later
     ∙ ap Some (sym (append_assoc parts.0 parts.1 y) ∙ ap (λ (xs : List ℕ). xs ++ y) parts.4)
 
 -- one item more of a list
@@ -120,11 +120,11 @@ take_next (y ∷ xs) (suc i) x lt is =
 -- ---- what was written
 
 -- nothing yet
-pub wrote_none : (old : Option (List ℕ)) (dues : List Due) → WhereTold old (Wrote old dues dues [])
-wrote_none old dues held is = (held, [], [], is, sym (append-nil dues), sym (append-nil held), refl, refl)
+pub wrote_none : (old : Option (List ℕ)) (headers : List Header) → WhereTold old (Wrote old headers headers [])
+wrote_none old headers held is = (held, [], [], is, sym (append-nil headers), sym (append-nil held), refl, refl)
 
 -- one piece behind others
-pub wrote_more : (old mid new : Option (List ℕ)) (a b c : List Due) (x y : List ℕ) → WhereTold mid (Wrote old a b x) → WhereTold new (Wrote mid b c y) → WhereTold new (Wrote old a c (x ++ y))
+pub wrote_more : (old mid new : Option (List ℕ)) (a b c : List Header) (x y : List ℕ) → WhereTold mid (Wrote old a b x) → WhereTold new (Wrote mid b c y) → WhereTold new (Wrote old a c (x ++ y))
 wrote_more old mid new a b c x y first next held is =
     let n = next held is in
     let m = first n.0 n.3 in
@@ -155,15 +155,15 @@ grows_one (Some b) (Some h) page at size holds untold told place held is =
     (b, refl, same ∙ holds ∙ ap₂ (λ (xs ys : List ℕ). xs ++ page ++ ys) front rest ∙ append-nil (b ++ page))
 
 -- a page
-pub wrote_one : (old new : Option (List ℕ)) (dues : List Due) (d : Due) (page piece : List ℕ) → Grows old new page → length page ≡ 4096
-    → piece_of d page ≡ Some piece → WhereTold new (Wrote old dues (dues ++ d ∷ []) piece)
-wrote_one old new dues d page piece grows whole back held is =
+pub wrote_one : (old new : Option (List ℕ)) (headers : List Header) (d : Header) (page piece : List ℕ) → Grows old new page → length page ≡ 4096
+    → piece_of d page ≡ Some piece → WhereTold new (Wrote old headers (headers ++ d ∷ []) piece)
+wrote_one old new headers d page piece grows whole back held is =
     let grown = grows held is in
     let one : due_piece (d ∷ []) page 0 ≡ Some piece = ap (piece_of d) (take_all 4096 page (omega (arith, whole))) ∙ back in
     (grown.0, d ∷ [], page, grown.1, refl, grown.2, whole, run_whole (due_piece (d ∷ []) page 0) (Some []) piece [] one refl ∙ ap Some (append-nil piece))
 
 -- the bytes of the page of a piece
-pub page_is : (d : Due) (p bytes : List ℕ) → bytes ≡ page_of d p → length p ≡ d.length → bytes ≡ page_bytes d.table d.piece p
+pub page_is : (d : Header) (p bytes : List ℕ) → bytes ≡ page_of d p → length p ≡ d.length → bytes ≡ page_bytes d.table d.piece p
 page_is d p bytes is e = is ∙ ap (λ (n : ℕ). header_bytes d.table d.piece n ++ p ++ replicate (4086 - length p) 0) (sym e)
 
 -- what is behind a cut at a bound, or at the end of a list
@@ -250,54 +250,54 @@ tables_whole : (o : Option (List Row)) (p : Option (List (List Row))) (a : List 
     → option_and_then (λ rows. option_map (λ all. rows ∷ all) p) o ≡ Some (a ∷ b)
 tables_whole o p a b e f = rw (e, f) refl
 
-table_stays : (dues ds : List Due) (held more : List ℕ) (t : Table) (run : TableRun) (rows : List Row)
-    → table_read dues held t run ≡ Some rows → table_read (dues ++ ds) (held ++ more) t run ≡ Some rows
-table_stays dues ds held more t run rows e = by (due_run dues held run.first run.pages) refl e
+table_stays : (headers ds : List Header) (held more : List ℕ) (t : Table) (run : TableRun) (rows : List Row)
+    → table_read headers held t run ≡ Some rows → table_read (headers ++ ds) (held ++ more) t run ≡ Some rows
+table_stays headers ds held more t run rows e = by (due_run headers held run.first run.pages) refl e
   where
-    by : (o : Option (List ℕ)) → due_run dues held run.first run.pages ≡ o → option_and_then (rows_of_run t run.rows) o ≡ Some rows → table_read (dues ++ ds) (held ++ more) t run ≡ Some rows
+    by : (o : Option (List ℕ)) → due_run headers held run.first run.pages ≡ o → option_and_then (rows_of_run t run.rows) o ≡ Some rows → table_read (headers ++ ds) (held ++ more) t run ≡ Some rows
     by None is e = cc
-    by (Some bytes) is e = ap (option_and_then (rows_of_run t run.rows)) (run_stays dues ds held more run.first run.pages bytes is) ∙ e
+    by (Some bytes) is e = ap (option_and_then (rows_of_run t run.rows)) (run_stays headers ds held more run.first run.pages bytes is) ∙ e
 
-tables_stay : (dues ds : List Due) (held more : List ℕ) (ts : List Table) (runs : List TableRun) (all : List (List Row))
-    → tables_read dues held ts runs ≡ Some all → tables_read (dues ++ ds) (held ++ more) ts runs ≡ Some all
-tables_stay dues ds held more [] [] all e = e
-tables_stay dues ds held more [] (r ∷ runs) all e = cc
-tables_stay dues ds held more (t ∷ ts) [] all e = cc
-tables_stay dues ds held more (t ∷ ts) (r ∷ runs) all e =
-    let parts = tables_parts (table_read dues held t r) (tables_read dues held ts runs) all e in
-    tables_whole (table_read (dues ++ ds) (held ++ more) t r) (tables_read (dues ++ ds) (held ++ more) ts runs) parts.0 parts.1
-    (table_stays dues ds held more t r parts.0 parts.2) (tables_stay dues ds held more ts runs parts.1 parts.3) ∙ ap Some parts.4
+tables_stay : (headers ds : List Header) (held more : List ℕ) (ts : List Table) (runs : List TableRun) (all : List (List Row))
+    → tables_read headers held ts runs ≡ Some all → tables_read (headers ++ ds) (held ++ more) ts runs ≡ Some all
+tables_stay headers ds held more [] [] all e = e
+tables_stay headers ds held more [] (r ∷ runs) all e = cc
+tables_stay headers ds held more (t ∷ ts) [] all e = cc
+tables_stay headers ds held more (t ∷ ts) (r ∷ runs) all e =
+    let parts = tables_parts (table_read headers held t r) (tables_read headers held ts runs) all e in
+    tables_whole (table_read (headers ++ ds) (held ++ more) t r) (tables_read (headers ++ ds) (held ++ more) ts runs) parts.0 parts.1
+    (table_stays headers ds held more t r parts.0 parts.2) (tables_stay headers ds held more ts runs parts.1 parts.3) ∙ ap Some parts.4
 
 -- a table more
-tables_more : (dues : List Due) (held : List ℕ) (ts : List Table) (runs : List TableRun) (all : List (List Row)) (t : Table)
+tables_more : (headers : List Header) (held : List ℕ) (ts : List Table) (runs : List TableRun) (all : List (List Row)) (t : Table)
     (run : TableRun) (rows : List Row)
-    → tables_read dues held ts runs ≡ Some all → table_read dues held t run ≡ Some rows
-    → tables_read dues held (ts ++ t ∷ []) (runs ++ run ∷ []) ≡ Some (all ++ rows ∷ [])
-tables_more dues held [] [] all t run rows e f =
-    let none : [] ≡ all = cc in tables_whole (table_read dues held t run) (Some []) rows [] f refl
+    → tables_read headers held ts runs ≡ Some all → table_read headers held t run ≡ Some rows
+    → tables_read headers held (ts ++ t ∷ []) (runs ++ run ∷ []) ≡ Some (all ++ rows ∷ [])
+tables_more headers held [] [] all t run rows e f =
+    let none : [] ≡ all = cc in tables_whole (table_read headers held t run) (Some []) rows [] f refl
     ∙ ap (λ (xs : List (List Row)). Some (xs ++ rows ∷ [])) none
-tables_more dues held [] (r ∷ runs) all t run rows e f = cc
-tables_more dues held (u ∷ ts) [] all t run rows e f = cc
-tables_more dues held (u ∷ ts) (r ∷ runs) all t run rows e f =
-    let parts = tables_parts (table_read dues held u r) (tables_read dues held ts runs) all e in
-    tables_whole (table_read dues held u r) (tables_read dues held (ts ++ t ∷ []) (runs ++ run ∷ [])) parts.0 (parts.1 ++ rows ∷ []) parts.2
-    (tables_more dues held ts runs parts.1 t run rows parts.3 f)
+tables_more headers held [] (r ∷ runs) all t run rows e f = cc
+tables_more headers held (u ∷ ts) [] all t run rows e f = cc
+tables_more headers held (u ∷ ts) (r ∷ runs) all t run rows e f =
+    let parts = tables_parts (table_read headers held u r) (tables_read headers held ts runs) all e in
+    tables_whole (table_read headers held u r) (tables_read headers held (ts ++ t ∷ []) (runs ++ run ∷ [])) parts.0 (parts.1 ++ rows ∷ []) parts.2
+    (tables_more headers held ts runs parts.1 t run rows parts.3 f)
     ∙ ap (λ (xs : List (List Row)). Some (xs ++ rows ∷ [])) parts.4
 
 -- the rows of a table were written
-pub stores_more : (old new : Option (List ℕ)) (dues more : List Due) (bytes : List ℕ) (runs : List TableRun) (ts : List Table) (all : List (List Row)) (t : Table) (run : TableRun) (rows : List Row)
-    → WhereTold old (Stores dues runs ts all) → WhereTold new (Wrote old dues more bytes) → run.first ≡ length dues → run.first + run.pages ≡ length more → rows_of_run t run.rows bytes ≡ Some rows
+pub stores_more : (old new : Option (List ℕ)) (headers more : List Header) (bytes : List ℕ) (runs : List TableRun) (ts : List Table) (all : List (List Row)) (t : Table) (run : TableRun) (rows : List Row)
+    → WhereTold old (Stores headers runs ts all) → WhereTold new (Wrote old headers more bytes) → run.first ≡ length headers → run.first + run.pages ≡ length more → rows_of_run t run.rows bytes ≡ Some rows
     → WhereTold new (Stores more (runs ++ run ∷ []) (ts ++ t ∷ []) (all ++ rows ∷ []))
-stores_more old new dues more bytes runs ts all t run rows stored wrote first pages back held is =
+stores_more old new headers more bytes runs ts all t run rows stored wrote first pages back held is =
     let w = wrote held is in
     let s = stored w.0 w.3 in
-    let count : run.pages ≡ length w.1 = (let e = ap length w.4 in let l = length-append dues w.1 in omega (arith, first, pages, e, l)) in
-    let start : run.first ≡ length dues + 0 = omega (arith, first) in
-    let bytes_there : due_run (dues ++ w.1) (w.0 ++ w.2) run.first run.pages ≡ Some bytes =
-    ap (λ (k : ℕ). due_run (dues ++ w.1) (w.0 ++ w.2) k run.pages) start ∙ ap (due_run (dues ++ w.1) (w.0 ++ w.2) (length dues + 0)) count ∙ run_behind dues w.1 w.0 w.2 0 (length w.1) s.0 ∙ w.7 in
-    let there : table_read (dues ++ w.1) (w.0 ++ w.2) t run ≡ Some rows = ap (option_and_then (rows_of_run t run.rows)) bytes_there ∙ back in
-    let whole = tables_more (dues ++ w.1) (w.0 ++ w.2) ts runs all t run rows (tables_stay dues w.1 w.0 w.2 ts runs all s.1) there in
-    let long : length (w.0 ++ w.2) ≡ 4096 * length (dues ++ w.1) = (let l = length-append w.0 w.2 in let k = length-append dues w.1 in omega (arith, l, k, s.0, w.6)) in
+    let count : run.pages ≡ length w.1 = (let e = ap length w.4 in let l = length-append headers w.1 in omega (arith, first, pages, e, l)) in
+    let start : run.first ≡ length headers + 0 = omega (arith, first) in
+    let bytes_there : due_run (headers ++ w.1) (w.0 ++ w.2) run.first run.pages ≡ Some bytes =
+    ap (λ (k : ℕ). due_run (headers ++ w.1) (w.0 ++ w.2) k run.pages) start ∙ ap (due_run (headers ++ w.1) (w.0 ++ w.2) (length headers + 0)) count ∙ run_behind headers w.1 w.0 w.2 0 (length w.1) s.0 ∙ w.7 in
+    let there : table_read (headers ++ w.1) (w.0 ++ w.2) t run ≡ Some rows = ap (option_and_then (rows_of_run t run.rows)) bytes_there ∙ back in
+    let whole = tables_more (headers ++ w.1) (w.0 ++ w.2) ts runs all t run rows (tables_stay headers w.1 w.0 w.2 ts runs all s.1) there in
+    let long : length (w.0 ++ w.2) ≡ 4096 * length (headers ++ w.1) = (let l = length-append w.0 w.2 in let k = length-append headers w.1 in omega (arith, l, k, s.0, w.6)) in
     (rw (w.5, w.4) long, rw (w.5, w.4) whole)
 
 -- the run of a table more is among the pages
@@ -331,20 +331,20 @@ stores_none None size told none held is = cc
 stores_none (Some h) size told none held is = let same : h ≡ held = cc in (rw (← same) (omega (arith, told, none)), refl)
 
 -- one table more of those of a database
-pub stores_next : (old new : Option (List ℕ)) (dues more : List Due) (runs : List TableRun) (ts : List Table) (all : List (List Row)) (i : ℕ) (t : Table) (run : TableRun) (rows : List Row)
+pub stores_next : (old new : Option (List ℕ)) (headers more : List Header) (runs : List TableRun) (ts : List Table) (all : List (List Row)) (i : ℕ) (t : Table) (run : TableRun) (rows : List Row)
     → i < length ts → i < length all → t ≡ get_or ts i t → rows ≡ get_or all i rows
-    → WhereTold old (Stores dues runs (take i ts) (take i all)) → WroteRows old new dues more t run rows → run.first ≡ length dues
+    → WhereTold old (Stores headers runs (take i ts) (take i all)) → WroteRows old new headers more t run rows → run.first ≡ length headers
     → run.first + run.pages ≡ length more
     → WhereTold new (Stores more (runs ++ run ∷ []) (take (i + 1) ts) (take (i + 1) all))
-stores_next old new dues more runs ts all i t run rows lt below is at stored wrote first pages =
+stores_next old new headers more runs ts all i t run rows lt below is at stored wrote first pages =
     rw (take_next ts i t lt is, take_next all i rows below at)
-    (stores_more old new dues more wrote.0 runs (take i ts) (take i all) t run rows stored wrote.1 first pages wrote.2)
+    (stores_more old new headers more wrote.0 runs (take i ts) (take i all) t run rows stored wrote.1 first pages wrote.2)
 
 -- all tables are stored
-pub stores_all : (told : Option (List ℕ)) (dues : List Due) (runs : List TableRun) (ts : List Table) (all : List (List Row)) (i : ℕ)
-    → length ts ≤ i → length all ≤ i → WhereTold told (Stores dues runs (take i ts) (take i all)) → WhereTold told (Stores dues runs ts all)
-stores_all told dues runs ts all i le below stored held is =
-    ((stored held is).0, sym (ap (λ some. tables_read dues held some runs) (take_all i ts le)) ∙ (stored held is).1 ∙ ap Some (take_all i all below))
+pub stores_all : (told : Option (List ℕ)) (headers : List Header) (runs : List TableRun) (ts : List Table) (all : List (List Row)) (i : ℕ)
+    → length ts ≤ i → length all ≤ i → WhereTold told (Stores headers runs (take i ts) (take i all)) → WhereTold told (Stores headers runs ts all)
+stores_all told headers runs ts all i le below stored held is =
+    ((stored held is).0, sym (ap (λ some. tables_read headers held some runs) (take_all i ts le)) ∙ (stored held is).1 ∙ ap Some (take_all i all below))
 
 -- ---- what a disk tells
 

@@ -9,7 +9,7 @@ use Rattle.hq_model.specs.declared.table.Table.{Table}
 use Rattle.hq_load_tables.specs.Tested.{rows_of_values}
 use Rattle.hq_load_pages.specs.Held.{due_run}
 use Rattle.hq_load_pages.specs.Runs.{cells_of}
-use Rattle.hq_load_pages.specs.declared.due.Due.{Due}
+use Rattle.hq_load_pages.specs.declared.header.Header.{Header}
 use Rattle.hq_load_pages.specs.declared.table_run.TableRun.{TableRun}
 
 -- so many rows of a table, where the bytes are exactly those of their cells
@@ -17,14 +17,14 @@ abbrev pub rows_of_run : Table → (count : ℕ) → List ℕ → Option (List R
 rows_of_run t count bytes = option_map (rows_of_values t count) (cells_of (count * length t.columns) bytes)
 
 -- the rows of a table, where its pages are due and have the cells of so many rows
-abbrev pub table_read : List Due → List ℕ → Table → TableRun → Option (List Row)
-table_read dues held t run = option_and_then (rows_of_run t run.rows) (due_run dues held run.first run.pages)
+abbrev pub table_read : List Header → List ℕ → Table → TableRun → Option (List Row)
+table_read headers held t run = option_and_then (rows_of_run t run.rows) (due_run headers held run.first run.pages)
 
 -- the rows of each table, where all read
-abbrev pub tables_read : List Due → List ℕ → List Table → List TableRun → Option (List (List Row))
-tables_read dues held [] [] = Some []
-tables_read dues held (t ∷ ts) (run ∷ runs) = option_and_then (λ rows. option_map (λ all. rows ∷ all) (tables_read dues held ts runs)) (table_read dues held t run)
-tables_read dues held _ _ = None
+abbrev pub tables_read : List Header → List ℕ → List Table → List TableRun → Option (List (List Row))
+tables_read headers held [] [] = Some []
+tables_read headers held (t ∷ ts) (run ∷ runs) = option_and_then (λ rows. option_map (λ all. rows ∷ all) (tables_read headers held ts runs)) (table_read headers held t run)
+tables_read headers held _ _ = None
 
 -- what was read are valid rows of the table
 abbrev pub reads_rows : Table → Option (List Row) → Bool

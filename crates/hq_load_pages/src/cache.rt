@@ -9,7 +9,7 @@ ghost use Rattle.hq_load_pages.specs.Held.{are_pieces, due_piece, page_at, Where
 ghost use Rattle.hq_load_pages.specs.Touch.{misses, touched, StaysOrTouched};
 ghost use Rattle.hq_load_pages.specs.declared.cache.TouchRefusal.TheVariants as refusal;
 
-use crate::Due;
+use crate::Header;
 use crate::page::{PAGE, piece_in};
 use hq_base::Memory;
 use hq_io::Disk;
@@ -104,19 +104,19 @@ fn fetch<K: Disk>(
     alloc: Global,
     pieces: &mut Pieces,
     disk: &mut K,
-    dues: &[Due],
+    headers: &[Header],
     page: usize,
 ) -> Result<Vec<u8>, TouchRefusal>
-    requires inside { page < length dues.now }
+    requires inside { page < length headers.now }
     requires small { page < 2 ^ 51 }
     requires missed { list_any (nat_eq page) (keys_of pieces.old.entries) ≡ false }
-    requires pieces { WhereTold (K.held disk.old) (λ held. are_pieces (λ v. v.items) dues.now held pieces.old.entries ≡ true) }
+    requires pieces { WhereTold (K.held disk.old) (λ held. are_pieces (λ v. v.items) headers.now held pieces.old.entries ≡ true) }
     ensures cached { OnOk result (keys_of pieces.new.entries ≡ touched page pieces.old.cap (keys_of pieces.old.entries)) }
     ensures err { OnErr result (pieces.new ≡ pieces.old) }
     ensures cap { pieces.new.cap ≡ pieces.old.cap }
-    ensures piece { IfOk result (λ piece. WhereTold (K.held disk.old) (λ held. due_piece dues.now held page ≡ Some piece.items)) }
-    ensures pieces { WhereTold (K.held disk.old) (λ held. are_pieces (λ v. v.items) dues.now held pieces.new.entries ≡ true) }
-    ensures broken { IsErrOf result refusal.Broken → WhereTold (K.held disk.old) (λ held. due_piece dues.now held page ≡ None) }
+    ensures piece { IfOk result (λ piece. WhereTold (K.held disk.old) (λ held. due_piece headers.now held page ≡ Some piece.items)) }
+    ensures pieces { WhereTold (K.held disk.old) (λ held. are_pieces (λ v. v.items) headers.now held pieces.new.entries ≡ true) }
+    ensures broken { IsErrOf result refusal.Broken → WhereTold (K.held disk.old) (λ held. due_piece headers.now held page ≡ None) }
     ensures calls { OnOk result (Rises (K.calls disk.old) (K.calls disk.new) 1) }
     ensures failed { IsErrOf result refusal.Failed → Rose (K.faults disk.old) (K.faults disk.new) }
     ensures held { K.held disk.new ≡ K.held disk.old }
@@ -124,7 +124,7 @@ fn fetch<K: Disk>(
 {
     let _len = pieces.len();
     let bytes = read_page(alloc, disk, page as u64)?;
-    let Some(piece) = piece_in(alloc, dues[page], &bytes)? else {
+    let Some(piece) = piece_in(alloc, headers[page], &bytes)? else {
         return Err(TouchRefusal::Broken);
     };
     let copied = copy(alloc, &piece)?;
@@ -139,18 +139,18 @@ pub fn touch_page<K: Disk>(
     alloc: Global,
     pieces: &mut Pieces,
     disk: &mut K,
-    dues: &[Due],
+    headers: &[Header],
     page: usize,
 ) -> Result<Vec<u8>, TouchRefusal>
-    requires inside { page < length dues.now }
+    requires inside { page < length headers.now }
     requires small { page < 2 ^ 51 }
-    requires pieces { WhereTold (K.held disk.old) (λ held. are_pieces (λ v. v.items) dues.now held pieces.old.entries ≡ true) }
+    requires pieces { WhereTold (K.held disk.old) (λ held. are_pieces (λ v. v.items) headers.now held pieces.old.entries ≡ true) }
     ensures cached { OnOk result (keys_of pieces.new.entries ≡ touched page pieces.old.cap (keys_of pieces.old.entries)) }
     ensures refused { OnErr result (StaysOrTouched page pieces.old.cap (keys_of pieces.old.entries) (keys_of pieces.new.entries)) }
     ensures cap { pieces.new.cap ≡ pieces.old.cap }
-    ensures piece { IfOk result (λ piece. WhereTold (K.held disk.old) (λ held. due_piece dues.now held page ≡ Some piece.items)) }
-    ensures pieces { WhereTold (K.held disk.old) (λ held. are_pieces (λ v. v.items) dues.now held pieces.new.entries ≡ true) }
-    ensures broken { IsErrOf result refusal.Broken → WhereTold (K.held disk.old) (λ held. due_piece dues.now held page ≡ None) }
+    ensures piece { IfOk result (λ piece. WhereTold (K.held disk.old) (λ held. due_piece headers.now held page ≡ Some piece.items)) }
+    ensures pieces { WhereTold (K.held disk.old) (λ held. are_pieces (λ v. v.items) headers.now held pieces.new.entries ≡ true) }
+    ensures broken { IsErrOf result refusal.Broken → WhereTold (K.held disk.old) (λ held. due_piece headers.now held page ≡ None) }
     ensures calls { OnOk result (Rises (K.calls disk.old) (K.calls disk.new) (misses page (keys_of pieces.old.entries))) }
     ensures failed { IsErrOf result refusal.Failed → Rose (K.faults disk.old) (K.faults disk.new) }
     ensures held { K.held disk.new ≡ K.held disk.old }
@@ -159,6 +159,6 @@ pub fn touch_page<K: Disk>(
     let _len = pieces.len();
     match cached(pieces, page as u64)? {
         Some(piece) => Ok(piece),
-        None => fetch(alloc, pieces, disk, dues, page),
+        None => fetch(alloc, pieces, disk, headers, page),
     }
 }

@@ -7,7 +7,7 @@
 
 mod cache;
 mod cell;
-mod due;
+mod header;
 mod make;
 mod page;
 mod page_writer;
@@ -21,7 +21,7 @@ mod table_run;
 mod table_writer;
 
 pub use cache::Pieces;
-pub use due::Due;
+pub use header::Header;
 pub use paged_tables::{PagedTables, Unmade};
 pub use refusal::PageRefusal;
 pub use table_run::TableRun;

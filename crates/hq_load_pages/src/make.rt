@@ -64,13 +64,13 @@ pub fn parts<K: Disk>(
     ensures pieces { IfOk result (λ p. p.pieces ≡ lru_cache [] (non_zero_usize_get pages)) }
     ensures places { IfOk result (λ p. length p.pins.items ≡ length tables.now) }
     ensures none { IfOk result (λ p. (t : ℕ) → is_pinned p.pins.items t ≡ false) }
-    ensures stores { IfOk result (λ p. WhereTold (K.held disk.new) (Stores p.directory.dues.items p.directory.runs.items tables.now all.now)) }
+    ensures stores { IfOk result (λ p. WhereTold (K.held disk.new) (Stores p.directory.headers.items p.directory.runs.items tables.now all.now)) }
     ensures bytes { OnOk result (WhereTold (K.held disk.new) (λ held. held ≡ disk_pages 0 all.now)) }
-    ensures inside { IfOk result (λ p. are_inside (length p.directory.dues.items) p.directory.runs.items ≡ true) }
+    ensures inside { IfOk result (λ p. are_inside (length p.directory.headers.items) p.directory.runs.items ≡ true) }
     ensures each { IfOk result (λ p. length p.directory.runs.items ≡ length tables.now) }
-    ensures pages { IfOk result (λ p. length p.directory.dues.items ≤ 2 ^ 51) }
+    ensures pages { IfOk result (λ p. length p.directory.headers.items ≤ 2 ^ 51) }
     ensures told { OnOk result (is_some (K.held disk.new) ≡ is_some (K.held disk.old)) }
-    ensures calls { IfOk result (λ p. Rises (K.calls disk.old) (K.calls disk.new) (length p.directory.dues.items)) }
+    ensures calls { IfOk result (λ p. Rises (K.calls disk.old) (K.calls disk.new) (length p.directory.headers.items)) }
     ensures failed { IsErrOf result refusal.Failed → Rose (K.faults disk.old) (K.faults disk.new) }
     ensures later { K.faults disk.old ≤ K.faults disk.new }
 {

@@ -14,7 +14,7 @@ ghost use Rattle.hq_load_pages.specs.Pins.{is_pinned, pinned_rows, PinsFit, Pins
 ghost use Rattle.hq_load_pages.specs.PinTouches.{Reads, TouchesFirst, Touches, sum_of};
 ghost use Rattle.hq_load_tables.specs.Store.{TellsRise};
 
-use crate::Due;
+use crate::Header;
 use crate::cache::{Pieces, TouchRefusal};
 use crate::make::parts;
 use crate::refusal::PageRefusal;
@@ -33,18 +33,18 @@ pub struct PagedTables<K: Disk> {
     catalog: Catalog,
     disk: K,
     pieces: Pieces,
-    dues: Vec<Due>,
+    headers: Vec<Header>,
     runs: Vec<TableRun>,
     pins: Vec<Option<Rows>>,
     broken: u64,
-    ghost few: { length dues.items ≤ 2 ^ 51 },
-    ghost inside: { are_inside (length dues.items) runs.items ≡ true },
+    ghost few: { length headers.items ≤ 2 ^ 51 },
+    ghost inside: { are_inside (length headers.items) runs.items ≡ true },
     ghost each: { length runs.items ≡ length catalog.tables },
     ghost places: { length pins.items ≡ length catalog.tables },
-    ghost stand: { WhereTold (K.held disk) (λ held. are_pieces (λ v. v.items) dues.items held pieces.entries ≡ true) },
-    ghost readable: { WhereTold (K.held disk) (λ held. reads_database catalog.tables (tables_read dues.items held catalog.tables runs.items) ≡ true) },
+    ghost stand: { WhereTold (K.held disk) (λ held. are_pieces (λ v. v.items) headers.items held pieces.entries ≡ true) },
+    ghost readable: { WhereTold (K.held disk) (λ held. reads_database catalog.tables (tables_read headers.items held catalog.tables runs.items) ≡ true) },
     ghost fit: { PinsFit catalog.tables pins.items } by { Prim.hlevel props },
-    ghost told: { WhereTold (K.held disk) (λ held. PinsOf (tables_read dues.items held catalog.tables runs.items) pins.items) } by { Prim.hlevel props },
+    ghost told: { WhereTold (K.held disk) (λ held. PinsOf (tables_read headers.items held catalog.tables runs.items) pins.items) } by { Prim.hlevel props },
     ghost sound: { WhereTold (K.held disk) (λ _. broken ≡ 0) },
 }
 
@@ -68,13 +68,13 @@ impl<K: Disk> PagedTables<K> {
         requires fits { is_database catalog.tables all ≡ true }
         requires empty { K.size disk ≡ 0 }
         ensures tables { IfOk result (λ s. s.catalog.tables ≡ catalog.tables) }
-        ensures database { IfOk result (λ s. WhereTold (K.held s.disk) (λ held. tables_read s.dues.items held s.catalog.tables s.runs.items ≡ Some all)) }
+        ensures database { IfOk result (λ s. WhereTold (K.held s.disk) (λ held. tables_read s.headers.items held s.catalog.tables s.runs.items ≡ Some all)) }
         ensures told { IfOk result (λ s. ⟦<PagedTables<K> as Tables>⟧.database s ≡ option_map (λ _. all) (K.held disk)) }
         ensures bytes { IfOk result (λ s. WhereTold (K.held s.disk) (λ held. held ≡ disk_pages 0 all)) }
         ensures cached { IfOk result (λ s. s.pieces ≡ lru_cache [] (non_zero_usize_get pages)) }
         ensures released { IfOk result (λ s. (t : ℕ) → is_pinned s.pins.items t ≡ false) }
         ensures sound { IfOk result (λ s. s.broken ≡ 0) }
-        ensures calls { IfOk result (λ s. Rises (K.calls disk) (K.calls s.disk) (length s.dues.items)) }
+        ensures calls { IfOk result (λ s. Rises (K.calls disk) (K.calls s.disk) (length s.headers.items)) }
         ensures faults { IfOk result (λ s. min (K.faults disk) (2 ^ 64 - 1) ≤ ⟦<PagedTables<K> as Tables>⟧.faults s) }
         ensures failed { IfErr result (λ unmade. unmade.why ≡ PageRefusal.Failed → Rose (K.faults disk) (K.faults unmade.disk)) }
         ensures later { MatchResult result (λ s. K.faults disk ≤ K.faults s.disk) (λ unmade. K.faults disk ≤ K.faults unmade.disk) }
@@ -86,7 +86,7 @@ impl<K: Disk> PagedTables<K> {
                 catalog,
                 disk,
                 pieces: parts.pieces,
-                dues: parts.directory.dues,
+                headers: parts.directory.headers,
                 runs: parts.directory.runs,
                 pins: parts.pins,
                 broken: 0,
@@ -137,7 +137,7 @@ fn clear(pins: &mut Vec<Option<Rows>>)
 impl<K: Disk> Tables for PagedTables<K> {
     ghost tables = { λ s. s.catalog.tables };
 
-    ghost database = { λ s. option_and_then (λ held. tables_read s.dues.items held s.catalog.tables s.runs.items) (K.held s.disk) };
+    ghost database = { λ s. option_and_then (λ held. tables_read s.headers.items held s.catalog.tables s.runs.items) (K.held s.disk) };
 
     ghost is_pinned = { λ s t. is_pinned s.pins.items t };
 
@@ -164,7 +164,7 @@ impl<K: Disk> Tables for PagedTables<K> {
         ensures held { K.held self.new.disk ≡ K.held self.old.disk }
         ensures cap { self.new.pieces.cap ≡ self.old.pieces.cap }
         ensures runs { self.new.runs ≡ self.old.runs }
-        ensures dues { self.new.dues ≡ self.old.dues }
+        ensures headers { self.new.headers ≡ self.old.headers }
 
         // What the trait says.
         ensures pinned { OnOk result ((u : ℕ) → is_pinned self.new.pins.items u ≡ ((u == t) || is_pinned self.old.pins.items u)) }
@@ -183,7 +183,7 @@ impl<K: Disk> Tables for PagedTables<K> {
         let run = run_at(&self.runs, at);
         let table = table_at(&self.catalog, at);
         let (pieces, disk) = (&mut self.pieces, &mut self.disk);
-        match read_table(alloc, pieces, disk, &self.dues, run, table) {
+        match read_table(alloc, pieces, disk, &self.headers, run, table) {
             Ok(rows) => {
                 self.pins[at] = Some(rows);
                 return Ok(());
@@ -208,7 +208,7 @@ impl<K: Disk> Tables for PagedTables<K> {
         ensures disk { self.new.disk ≡ self.old.disk }
         ensures pieces { self.new.pieces ≡ self.old.pieces }
         ensures runs { self.new.runs ≡ self.old.runs }
-        ensures dues { self.new.dues ≡ self.old.dues }
+        ensures headers { self.new.headers ≡ self.old.headers }
 
         // What the trait says.
         ensures released { (u : ℕ) → is_pinned self.new.pins.items u ≡ false }
@@ -232,9 +232,9 @@ impl<K: Disk> Tables for PagedTables<K> {
 
     ghost catalog_fits = { λ s. s.catalog.valid };
 
-    ghost database_fits = { λ s. told_database s.catalog.tables (K.held s.disk) (λ held. tables_read s.dues.items held s.catalog.tables s.runs.items) s.readable };
+    ghost database_fits = { λ s. told_database s.catalog.tables (K.held s.disk) (λ held. tables_read s.headers.items held s.catalog.tables s.runs.items) s.readable };
 
     ghost pinned_fits = { λ s t is. pinned_valid s.catalog.tables s.pins.items t s.fit is };
 
-    ghost pinned_told = { λ s t is. pinned_read (K.held s.disk) (λ held. tables_read s.dues.items held s.catalog.tables s.runs.items) s.pins.items t s.told is };
+    ghost pinned_told = { λ s t is. pinned_read (K.held s.disk) (λ held. tables_read s.headers.items held s.catalog.tables s.runs.items) s.pins.items t s.told is };
 }

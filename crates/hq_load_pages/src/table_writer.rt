@@ -9,7 +9,7 @@ ghost use Rattle.hq_load_pages.specs.Held.{WhereTold};
 ghost use Rattle.hq_load_pages.specs.Writes.{Stores, WroteRows};
 ghost use Rattle.hq_load_pages.specs.declared.refusal.PageRefusal.TheVariants as refusal;
 
-use crate::Due;
+use crate::Header;
 use crate::page_writer::write_pages;
 use crate::refusal::PageRefusal;
 use crate::rows_run::rows_run;
@@ -23,24 +23,24 @@ use std::alloc::Global;
 fn write_table<K: Disk>(
     alloc: Global,
     disk: &mut K,
-    dues: &mut Vec<Due>,
+    headers: &mut Vec<Header>,
     number: u32,
     table: &Table,
     rows: &Rows,
 ) -> Result<TableRun, PageRefusal>
     requires valid { are_rows table.now rows.now ≡ true }
-    requires size { K.size disk.old ≡ 4096 * length dues.old.items }
-    requires few { length dues.old.items ≤ 2 ^ 51 }
-    ensures size { OnOk result (K.size disk.new ≡ 4096 * length dues.new.items) }
-    ensures count { OnOk result (length dues.old.items ≤ length dues.new.items) }
-    ensures few { OnOk result (length dues.new.items ≤ 2 ^ 51) }
-    ensures first { IfOk result (λ run. run.first ≡ length dues.old.items) }
-    ensures pages { IfOk result (λ run. run.first + run.pages ≡ length dues.new.items) }
+    requires size { K.size disk.old ≡ 4096 * length headers.old.items }
+    requires few { length headers.old.items ≤ 2 ^ 51 }
+    ensures size { OnOk result (K.size disk.new ≡ 4096 * length headers.new.items) }
+    ensures count { OnOk result (length headers.old.items ≤ length headers.new.items) }
+    ensures few { OnOk result (length headers.new.items ≤ 2 ^ 51) }
+    ensures first { IfOk result (λ run. run.first ≡ length headers.old.items) }
+    ensures pages { IfOk result (λ run. run.first + run.pages ≡ length headers.new.items) }
     ensures rows { IfOk result (λ run. run.rows < 2 ^ 31) }
-    ensures wrote { IfOk result (λ run. WroteRows (K.held disk.old) (K.held disk.new) dues.old.items dues.new.items table.now run rows.now) }
+    ensures wrote { IfOk result (λ run. WroteRows (K.held disk.old) (K.held disk.new) headers.old.items headers.new.items table.now run rows.now) }
     ensures grown { OnOk result (Grows (K.held disk.old) (K.held disk.new) (run_pages number (rows_bytes rows.now))) }
     ensures told { OnOk result (is_some (K.held disk.new) ≡ is_some (K.held disk.old)) }
-    ensures calls { OnOk result (Rises (K.calls disk.old) (K.calls disk.new) (length dues.new.items - length dues.old.items)) }
+    ensures calls { OnOk result (Rises (K.calls disk.old) (K.calls disk.new) (length headers.new.items - length headers.old.items)) }
     ensures failed { IsErrOf result refusal.Failed → Rose (K.faults disk.old) (K.faults disk.new) }
     ensures later { K.faults disk.old ≤ K.faults disk.new }
 {
@@ -48,11 +48,11 @@ fn write_table<K: Disk>(
     if run.len() > u32::MAX as usize {
         return Err(PageRefusal::Memory);
     }
-    let first = dues.len();
-    write_pages(alloc, disk, dues, number, &run)?;
+    let first = headers.len();
+    write_pages(alloc, disk, headers, number, &run)?;
     Ok(TableRun {
         first,
-        pages: dues.len() - first,
+        pages: headers.len() - first,
         rows: rows.len(),
     })
 }
@@ -60,7 +60,7 @@ fn write_table<K: Disk>(
 /// What the headers of the pages of a disk are, and where the rows of each table lie among them.
 #[derive(Drop)]
 pub struct Directory {
-    pub dues: Vec<Due>,
+    pub headers: Vec<Header>,
     pub runs: Vec<TableRun>,
 }
 
@@ -74,23 +74,23 @@ pub fn write_tables<K: Disk>(
     requires valid { is_database tables.now all.now ≡ true }
     requires few { length tables.now ≤ 500 }
     requires empty { K.size disk.old ≡ 0 }
-    ensures stores { IfOk result (λ d. WhereTold (K.held disk.new) (Stores d.dues.items d.runs.items tables.now all.now)) }
+    ensures stores { IfOk result (λ d. WhereTold (K.held disk.new) (Stores d.headers.items d.runs.items tables.now all.now)) }
     ensures bytes { OnOk result (WhereTold (K.held disk.new) (λ held. held ≡ disk_pages 0 all.now)) }
-    ensures inside { IfOk result (λ d. are_inside (length d.dues.items) d.runs.items ≡ true) }
+    ensures inside { IfOk result (λ d. are_inside (length d.headers.items) d.runs.items ≡ true) }
     ensures each { IfOk result (λ d. length d.runs.items ≡ length tables.now) }
-    ensures pages { IfOk result (λ d. length d.dues.items ≤ 2 ^ 51) }
+    ensures pages { IfOk result (λ d. length d.headers.items ≤ 2 ^ 51) }
     ensures told { OnOk result (is_some (K.held disk.new) ≡ is_some (K.held disk.old)) }
-    ensures calls { IfOk result (λ d. Rises (K.calls disk.old) (K.calls disk.new) (length d.dues.items)) }
+    ensures calls { IfOk result (λ d. Rises (K.calls disk.old) (K.calls disk.new) (length d.headers.items)) }
     ensures failed { IsErrOf result refusal.Failed → Rose (K.faults disk.old) (K.faults disk.new) }
     ensures later { K.faults disk.old ≤ K.faults disk.new }
 {
-    let mut dues = Vec::new(alloc);
+    let mut headers = Vec::new(alloc);
     let mut runs = Vec::new(alloc);
     let mut at = 0;
     'tables: while at < tables.len() {
-        let run = write_table(alloc, disk, &mut dues, at as u32, &tables[at], &all[at])?;
+        let run = write_table(alloc, disk, &mut headers, at as u32, &tables[at], &all[at])?;
         runs.push(run)?;
         at += 1;
     }
-    Ok(Directory { dues, runs })
+    Ok(Directory { headers, runs })
 }

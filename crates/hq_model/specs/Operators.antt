@@ -37,6 +37,30 @@ test_name (Like true) true = codes "_nilike"
 abbrev pub operator_name : Operator → List ℕ
 operator_name o = test_name o.test o.negated
 
+-- the sign of a comparison in SQL, between two blanks
+abbrev pub op_sign : Op → List ℕ
+op_sign Eq = codes " = "
+op_sign Ne = codes " <> "
+op_sign Lt = codes " < "
+op_sign Le = codes " <= "
+op_sign Gt = codes " > "
+op_sign Ge = codes " >= "
+
+-- what a test, or its opposite, says of a column in SQL, in small letters, with the blanks around it
+abbrev pub test_words : Test → (negated : Bool) → List ℕ
+test_words (Compare op) negated = op_sign op
+test_words Among false = codes " in "
+test_words Among true = codes " not in "
+test_words IsNull false = codes " is null"
+test_words IsNull true = codes " is not null"
+test_words (Like false) false = codes " like "
+test_words (Like false) true = codes " not like "
+test_words (Like true) false = codes " ilike "
+test_words (Like true) true = codes " not ilike "
+
+abbrev pub operator_words : Operator → List ℕ
+operator_words o = test_words o.test o.negated
+
 -- the operators by which two columns of a row are compared, in ascending order of the bytes of their names
 abbrev pub column_operators : List Op
 column_operators = Eq ∷ Gt ∷ Ge ∷ Lt ∷ Le ∷ Ne ∷ []

@@ -1,6 +1,6 @@
 ghost use Rattle.std.specs.Prelude.{◌≡◌, bytes_eq, false, find};
 ghost use Rattle.hq_base.specs.Text.{has_zero};
-ghost use Rattle.hq_model.specs.Operators.{column_operator_name, column_operator_named, column_operators};
+ghost use Rattle.hq_model.specs.Operators.{column_operator_name, column_operator_named, column_operators, op_sign};
 ghost use Rattle.hq_model.specs.Tests.{same_op};
 
 /// A comparison.
@@ -34,6 +34,20 @@ impl Op {
             Op::Le => "_clte",
             Op::Gt => "_cgt",
             Op::Ge => "_cgte",
+        }
+    }
+
+    /// Its sign in SQL, between two blanks.
+    pub fn sign(self) -> &'static str
+        ensures { result.now ≡ op_sign self }
+    {
+        match self {
+            Op::Eq => " = ",
+            Op::Ne => " <> ",
+            Op::Lt => " < ",
+            Op::Le => " <= ",
+            Op::Gt => " > ",
+            Op::Ge => " >= ",
         }
     }
 

@@ -1,7 +1,7 @@
 //! The table of the operators by which a column is tested in a boolean expression.
 ghost use Rattle.std.specs.Prelude.{◌≡◌, true, false, find, bytes_eq};
 ghost use Rattle.hq_base.specs.Text.{has_zero};
-ghost use Rattle.hq_model.specs.Operators.{all_operators, operator_name, operator_named};
+ghost use Rattle.hq_model.specs.Operators.{all_operators, operator_name, operator_named, operator_words};
 
 use crate::{Op, Test};
 
@@ -73,6 +73,24 @@ impl Operator {
             (Test::Like { fold: false }, true) => "_nlike",
             (Test::Like { fold: true }, false) => "_ilike",
             (Test::Like { fold: true }, true) => "_nilike",
+        }
+    }
+
+    /// What it says of a column in SQL, in small letters: the words that stand between the column and its operands, with the
+    /// blanks around them. Behind the test of NULL stands none.
+    pub fn words(self) -> &'static str
+        ensures { result.now ≡ operator_words self }
+    {
+        match (self.test, self.negated) {
+            (Test::Compare(op), _) => op.sign(),
+            (Test::Among, false) => " in ",
+            (Test::Among, true) => " not in ",
+            (Test::IsNull, false) => " is null",
+            (Test::IsNull, true) => " is not null",
+            (Test::Like { fold: false }, false) => " like ",
+            (Test::Like { fold: false }, true) => " not like ",
+            (Test::Like { fold: true }, false) => " ilike ",
+            (Test::Like { fold: true }, true) => " not ilike ",
         }
     }
 

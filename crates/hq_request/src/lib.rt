@@ -2,13 +2,13 @@
 #![tactic(auto)]
 
 mod body;
-mod due;
 mod laws;
 mod operation;
 mod reading;
 mod refusal;
+mod request;
 mod validation;
 
-pub use due::request;
 pub use laws::requests_are_made;
 pub use refusal::RequestRefusal;
+pub use request::request;

@@ -3,24 +3,17 @@ ghost use Rattle.std.specs.Prelude.{◌≡◌};
 ghost use Rattle.hq_base.specs.Due.{Gives};
 ghost use Rattle.hq_gql_tree.specs.View.{document_view};
 ghost use Rattle.hq_schema.specs.Schema.{schema_view};
-ghost use Rattle.hq_request.specs.Validation.{rule_rank, earlier, valid_due};
+ghost use Rattle.hq_request.specs.Validation.{earlier, valid_due};
 
 use crate::refusal::RequestRefusal;
 use hq_faults::RequestFault;
-use hq_gql_tree::{Document, Fault, RuleId};
+use hq_gql_tree::{Document, Fault};
 use hq_rules_doc::first_doc_fault;
 use hq_rules_fields::first_field_fault;
 use hq_schema::Schema;
 use std::alloc::Global;
 
-// How many rules stand before one.
-fn rank(rule: RuleId) -> usize
-    ensures { result ≡ rule_rank rule }
-{
-    rule as usize
-}
-
-// Of two faults the one whose rule stands first.
+// Of two faults the one whose rule has the number that stands first.
 fn earlier(one: Option<Fault>, other: Option<Fault>) -> Option<Fault>
     ensures { result ≡ earlier one other }
 {
@@ -28,7 +21,7 @@ fn earlier(one: Option<Fault>, other: Option<Fault>) -> Option<Fault>
         (None, other) => other,
         (Some(one), None) => Some(one),
         (Some(one), Some(other)) => {
-            if rank(other.rule) < rank(one.rule) {
+            if other.rule.text() < one.rule.text() {
                 Some(other)
             } else {
                 Some(one)

@@ -4,9 +4,9 @@
 mod depth;
 mod expr;
 mod exprs;
-mod fits;
 mod form;
 mod grammar;
+mod representable;
 mod select;
 mod statement;
 mod word;

@@ -1,5 +1,7 @@
 -- The fault of a valid request is of building.
-use Rattle.std.proofs.Common.{◌≡◌, ◌∙◌, refl, sym, ap, subst, ℕ, List, length, Bool, true, false, cond, nat_lt, Option, Some, None, Result, Ok, Err, codes}
+use Rattle.std.proofs.Common.{◌≡◌, ◌∙◌, refl, sym, ap, subst, ℕ, List, length, Bool, true, false, cond, Option, Some, None, Result, Ok, Err, codes}
+use Rattle.std.specs.Cmp.Lexicographic.{slice_cmp}
+use Rattle.std.specs.Ordering.{nat_cmp, is_lt}
 use Rattle.hq_base.specs.Due.{◌>>=◌}
 use Rattle.hq_base.specs.Json.{JsonTree}
 use Rattle.hq_base.specs.Look.{member_in}
@@ -17,11 +19,12 @@ use Rattle.hq_gql_lexer.specs.declared.token.Token.{Token}
 use Rattle.hq_gql_parser.specs.Answered.{parsed}
 use Rattle.hq_gql_parser.specs.Documents.{Parses}
 use Rattle.hq_gql_tree.specs.Documents.{DocumentTree}
+use Rattle.hq_gql_tree.specs.Rules.{rule_text}
 use Rattle.hq_gql_tree.specs.declared.fault.Fault.{Fault}
 use Rattle.hq_request.specs.Operation.{of_fault, of_coerce, operation_name, values_due, ask_due, operation_ask}
 use Rattle.hq_request.specs.Reading.{of_lex, of_parse, refused_as, query_due, document_due}
 use Rattle.hq_request.specs.Request.{request_by, fault_in}
-use Rattle.hq_request.specs.Validation.{rule_rank, earlier, unless_fault, valid_due}
+use Rattle.hq_request.specs.Validation.{earlier, unless_fault, valid_due}
 use Rattle.hq_request.specs.declared.refusal.RequestRefusal.{RequestRefusal}
 use Rattle.hq_schema_of_role.specs.RoleSchema.{role_schema}
 use Rattle.hq_rules_doc.specs.First.{first_doc_fault}
@@ -47,7 +50,7 @@ no_fault : (a b : Option Fault) (x y : DocumentTree) → unless_fault (earlier a
 no_fault None None x y e = (refl, refl)
 no_fault None (Some b) x y e = absurd cc
 no_fault (Some a) None x y e = absurd cc
-no_fault (Some a) (Some b) x y e = absurd (by (nat_lt (rule_rank b.rule) (rule_rank a.rule)) e)
+no_fault (Some a) (Some b) x y e = absurd (by (is_lt (slice_cmp nat_cmp (rule_text b.rule) (rule_text a.rule))) e)
   where
     by : (c : Bool) → unless_fault (cond c (Some b) (Some a)) x ≡ Ok y → ⊥
     by true e = cc

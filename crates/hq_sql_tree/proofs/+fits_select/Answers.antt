@@ -5,8 +5,8 @@ use Rattle.hq_sql_tree.specs.Form.{pred_fits, preds_fit}
 use Rattle.hq_sql_tree.proofs.Next.{next_pred, passes}
 use Rattle.hq_sql_tree.proofs.+fits_select.Goals as goal
 
-pub fits::preds_fit-loop-pred-preserved : goal.fits::preds_fit-loop-pred-preserved
-fits::preds_fit-loop-pred-preserved t c =
+pub representable::preds_fit-loop-pred-preserved : goal.representable::preds_fit-loop-pred-preserved
+representable::preds_fit-loop-pred-preserved t c =
     let items = c.deref-pred-items.result.now in
     let i = c.loop-pred.pred-index in
     let item = c.pred-item.result in

@@ -12,7 +12,7 @@ returns-in-Ok-clause-cached g c = let h = put_keys c.args.page c.in-Some.piece c
 pub returns-in-Ok-clause-pieces : goal.returns-in-Ok-clause-pieces
 returns-in-Ok-clause-pieces g c =
     let told = g.K.Disk.held c.args.disk.now in
-    let due : WhereTold told (λ held. due_piece c.args.dues.now held c.args.page ≡ Some c.in-Some.piece.items) =
-    search (rules, told_due c.args.dues.now told c.args.page c.index-dues-page.result c.in_ok-bytes.bytes.items) in
-    told_put (λ v. v.items) c.args.dues.now told c.args.page c.in-Some.piece c.args.pieces.now.cap c.args.pieces.now.entries
+    let due : WhereTold told (λ held. due_piece c.args.headers.now held c.args.page ≡ Some c.in-Some.piece.items) =
+    search (rules, told_due c.args.headers.now told c.args.page c.index-headers-page.result c.in_ok-bytes.bytes.items) in
+    told_put (λ v. v.items) c.args.headers.now told c.args.page c.in-Some.piece c.args.pieces.now.cap c.args.pieces.now.entries
     c.put.new.self.entries c.requires.pieces c.requires.missed due (search rules)

@@ -10,7 +10,7 @@ use Rattle.hq_load_pages.proofs.page_writer.write_pages.Goals as goal
 -- nothing is written yet
 pub pieces-init : goal.pieces-init
 pieces-init g c =
-    let n = length c.args.dues.now.items in
+    let n = length c.args.headers.now.items in
     let o = g.K.Disk.calls c.args.disk.now in
     let none : n - n ≡ 0 = omega arith in
     record {
@@ -18,7 +18,7 @@ pieces-init g c =
       size = search rules;
       count = search rules;
       few = search rules;
-      wrote = ([], refl, wrote_none (g.K.Disk.held c.args.disk.now) c.args.dues.now.items);
+      wrote = ([], refl, wrote_none (g.K.Disk.held c.args.disk.now) c.args.headers.now.items);
       grown = ([], length c.args.run.now, search rules, refl, grows_none (g.K.Disk.held c.args.disk.now));
       told = refl;
       calls = rw none (rises_none o);
@@ -42,8 +42,8 @@ pieces-preserved g c =
     let grown =
     grows_more (g.K.Disk.held c.args.disk.now) (g.K.Disk.held c.pieces.disk) (g.K.Disk.held c.write_page.new.disk) pages.0
     (page_bytes c.args.table c.pieces.piece front) pages.4 c.in_ok-write_page.ensures.grown in
-    let one : length c.write_page.new.dues.items - length c.args.dues.now.items
-    ≡ (length c.pieces.dues.items - length c.args.dues.now.items) + 1 =
+    let one : length c.write_page.new.headers.items - length c.args.headers.now.items
+    ≡ (length c.pieces.headers.items - length c.args.headers.now.items) + 1 =
     omega (arith, so_far.count, c.in_ok-write_page.ensures.count) in
     let next : Rises (g.K.Disk.calls c.pieces.disk) (g.K.Disk.calls c.write_page.new.disk) 1 = c.in_ok-write_page.ensures.calls in
     record {
@@ -54,15 +54,15 @@ pieces-preserved g c =
       wrote = (
         done ++ front,
         append_assoc done front behind ∙ ap (λ xs. done ++ xs) parts ∙ so_far.wrote.1,
-        wrote_more (g.K.Disk.held c.args.disk.now) (g.K.Disk.held c.pieces.disk) (g.K.Disk.held c.write_page.new.disk) c.args.dues.now.items
-            c.pieces.dues.items c.write_page.new.dues.items done front so_far.wrote.2 c.in_ok-write_page.ensures.wrote,
+        wrote_more (g.K.Disk.held c.args.disk.now) (g.K.Disk.held c.pieces.disk) (g.K.Disk.held c.write_page.new.disk) c.args.headers.now.items
+            c.pieces.headers.items c.write_page.new.headers.items done front so_far.wrote.2 c.in_ok-write_page.ensures.wrote,
       );
       grown = (pages.0 ++ page_bytes c.args.table c.pieces.piece front, pages.1 - 1, page.0, page.1, grown);
       told = c.in_ok-write_page.ensures.told ∙ so_far.told;
       calls =
           rw one
           (rises_more (g.K.Disk.calls c.args.disk.now) (g.K.Disk.calls c.pieces.disk) (g.K.Disk.calls c.write_page.new.disk)
-          (length c.pieces.dues.items - length c.args.dues.now.items) 1 so_far.calls next);
+          (length c.pieces.headers.items - length c.args.headers.now.items) 1 so_far.calls next);
       later = search rules;
     }
 

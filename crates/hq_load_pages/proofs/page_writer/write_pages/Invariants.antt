@@ -9,15 +9,15 @@ use Rattle.hq_load_pages.proofs.page_writer.write_pages.Given as goal
 abbrev pub invariant-pieces : goal.invariant-pieces
 invariant-pieces g l = record {
   number : l.piece + length l.rest ≤ length l.run;
-  size : g.K.Disk.size l.disk ≡ 4096 * length l.dues.items;
-  count : length l.fn.dues.items ≤ length l.dues.items;
-  few : length l.dues.items ≤ 2 ^ 51;
-  wrote : (done : List ℕ) × (done ++ l.rest ≡ l.run) × WhereTold (g.K.Disk.held l.disk) (Wrote (g.K.Disk.held l.fn.disk) l.fn.dues.items l.dues.items done);
+  size : g.K.Disk.size l.disk ≡ 4096 * length l.headers.items;
+  count : length l.fn.headers.items ≤ length l.headers.items;
+  few : length l.headers.items ≤ 2 ^ 51;
+  wrote : (done : List ℕ) × (done ++ l.rest ≡ l.run) × WhereTold (g.K.Disk.held l.disk) (Wrote (g.K.Disk.held l.fn.disk) l.fn.headers.items l.headers.items done);
   grown : (pages : List ℕ) × (most : ℕ) × (length l.rest ≤ most)
       × (pages ++ pages_from l.table l.piece most l.rest ≡ run_pages l.table l.run)
       × Grows (g.K.Disk.held l.fn.disk) (g.K.Disk.held l.disk) pages;
   told : is_some (g.K.Disk.held l.disk) ≡ is_some (g.K.Disk.held l.fn.disk);
-  calls : Rises (g.K.Disk.calls l.fn.disk) (g.K.Disk.calls l.disk) (length l.dues.items - length l.fn.dues.items);
+  calls : Rises (g.K.Disk.calls l.fn.disk) (g.K.Disk.calls l.disk) (length l.headers.items - length l.fn.headers.items);
   later : g.K.Disk.faults l.fn.disk ≤ g.K.Disk.faults l.disk;
 }
 

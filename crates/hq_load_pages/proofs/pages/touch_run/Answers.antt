@@ -16,7 +16,7 @@ pages-preserved g c =
     next_calls (g.K.Disk.calls c.args.disk.now) (g.K.Disk.calls c.pages.disk) (g.K.Disk.calls c.touch_page.new.disk) c.args.first
     c.pages.done cap old now so_far.cached so_far.calls (search rules) in
     let run =
-    next_run c.args.dues.now told c.args.first c.pages.done c.args.count c.pages.run.items c.append.new.run.items
+    next_run c.args.headers.now told c.args.first c.pages.done c.args.count c.pages.run.items c.append.new.run.items
     c.in_ok-piece.piece.items (search rules) (search rules) (search rules) so_far.run in
     record { within = search rules; cap = search rules; cached = touched; calls = calls; run = run; pieces = search rules; held = search rules; later = search rules }
 
@@ -30,7 +30,7 @@ returns-in_err-piece-clause-refused g c =
 -- a page that is not due
 pub returns-in_err-piece-clause-broken : goal.returns-in_err-piece-clause-broken
 returns-in_err-piece-clause-broken g c =
-    let broken = broken_run c.args.dues.now (g.K.Disk.held c.args.disk.now) c.args.first c.pages.done c.args.count c.pages.run.items in
+    let broken = broken_run c.args.headers.now (g.K.Disk.held c.args.disk.now) c.args.first c.pages.done c.args.count c.pages.run.items in
     search (rules, broken)
 
 -- no memory for the piece: the page was touched

@@ -12,8 +12,8 @@ invariant-pages g l = record {
   cap : l.pieces.cap ≡ l.fn.pieces.cap;
   cached : keys_of l.pieces.entries ≡ touched_from l.first l.done l.fn.pieces.cap (keys_of l.fn.pieces.entries);
   calls : Rises (g.K.Disk.calls l.fn.disk) (g.K.Disk.calls l.disk) (missed_from l.first l.done l.fn.pieces.cap (keys_of l.fn.pieces.entries));
-  run : WhereTold (g.K.Disk.held l.fn.disk) (λ held. due_run l.dues held l.first l.count ≡ option_map (λ rest. l.run.items ++ rest) (due_run l.dues held (l.first + l.done) (l.count - l.done)));
-  pieces : WhereTold (g.K.Disk.held l.fn.disk) (λ held. are_pieces (λ v. v.items) l.dues held l.pieces.entries ≡ true);
+  run : WhereTold (g.K.Disk.held l.fn.disk) (λ held. due_run l.headers held l.first l.count ≡ option_map (λ rest. l.run.items ++ rest) (due_run l.headers held (l.first + l.done) (l.count - l.done)));
+  pieces : WhereTold (g.K.Disk.held l.fn.disk) (λ held. are_pieces (λ v. v.items) l.headers held l.pieces.entries ≡ true);
   held : g.K.Disk.held l.disk ≡ g.K.Disk.held l.fn.disk;
   later : g.K.Disk.faults l.fn.disk ≤ g.K.Disk.faults l.disk;
 }

@@ -26,13 +26,13 @@ tables-preserved g c =
     let below : c.tables.at < length c.args.tables.now = search rules in
     let there : c.tables.at < length c.args.all.now = omega (arith, many, below) in
     let runs : c.push.new.self.items ≡ c.tables.runs.items ++ run ∷ [] = search rules in
-    let old = length c.tables.dues.items in
-    let new = length c.write_table.new.dues.items in
+    let old = length c.tables.headers.items in
+    let new = length c.write_table.new.headers.items in
     let sum : old + (new - old) ≡ new = omega (arith, wrote.count) in
     let within : run.first + run.pages ≤ new = omega (arith, wrote.pages) in
     let inside = inside_more old new c.tables.runs.items run so_far.inside wrote.count within wrote.rows in
     let stored =
-    stores_next (g.K.Disk.held c.tables.disk) (g.K.Disk.held c.write_table.new.disk) c.tables.dues.items c.write_table.new.dues.items
+    stores_next (g.K.Disk.held c.tables.disk) (g.K.Disk.held c.write_table.new.disk) c.tables.headers.items c.write_table.new.headers.items
     c.tables.runs.items c.args.tables.now c.args.all.now c.tables.at c.index-tables-at.result run c.index-all-at.result below there
     c.index-tables-at.is c.index-all-at.is so_far.stored wrote.wrote wrote.first wrote.pages in
     let calls = rises_more (g.K.Disk.calls c.args.disk.now) (g.K.Disk.calls c.tables.disk) (g.K.Disk.calls c.write_table.new.disk) old (new - old) so_far.calls wrote.calls in
@@ -57,7 +57,7 @@ pub returns-clause-stores : goal.returns-clause-stores
 returns-clause-stores g c =
     let many = as_many c.args.tables.now c.args.all.now c.requires.valid in
     let end : length c.args.tables.now ≤ c.tables.at = search rules in
-    stores_all (g.K.Disk.held c.tables.disk) c.tables.dues.items c.tables.runs.items c.args.tables.now c.args.all.now c.tables.at end (omega (arith, many, end)) c.tables.invariant.stored
+    stores_all (g.K.Disk.held c.tables.disk) c.tables.headers.items c.tables.runs.items c.args.tables.now c.args.all.now c.tables.at end (omega (arith, many, end)) c.tables.invariant.stored
 
 -- and their pages are all that the disk has
 pub returns-clause-bytes : goal.returns-clause-bytes

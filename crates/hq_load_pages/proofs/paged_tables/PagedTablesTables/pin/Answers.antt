@@ -13,12 +13,12 @@ returns-in-Err-Memory-clause-touched_some g c = search (rules, first_here)
 
 pub read_table-requires-clause-inside : goal.read_table-requires-clause-inside
 read_table-requires-clause-inside g c =
-    let there = inside_at (length c.args.self.now.dues.items) c.args.self.now.runs.items c.args.t c.run_at-run.result c.args.self.now.inside (search rules) in
+    let there = inside_at (length c.args.self.now.headers.items) c.args.self.now.runs.items c.args.t c.run_at-run.result c.args.self.now.inside (search rules) in
     search (rules, there.0)
 
 pub read_table-requires-clause-cells : goal.read_table-requires-clause-cells
 read_table-requires-clause-cells g c =
-    let there = inside_at (length c.args.self.now.dues.items) c.args.self.now.runs.items c.args.t c.run_at-run.result c.args.self.now.inside (search rules) in
+    let there = inside_at (length c.args.self.now.headers.items) c.args.self.now.runs.items c.args.t c.run_at-run.result c.args.self.now.inside (search rules) in
     cells_few c.run_at-run.result.rows (length c.table_at-table.result.now.columns) there.1 c.table_at-table.ensures.few
 
 -- the rows of the table are there
@@ -32,7 +32,7 @@ pub invariant_of-self-in-Ok-clause-told : goal.invariant_of-self-in-Ok-clause-to
 invariant_of-self-in-Ok-clause-told g c =
     let s = c.args.self.now in
     moved (g.K.Disk.held s.disk) (g.K.Disk.held c.read_table.new.disk) c.in-Ok.ensures.held
-    (pins_of (g.K.Disk.held s.disk) s.dues.items s.catalog.tables s.runs.items s.pins.items c.at-at.result c.table_at-table.result.now
+    (pins_of (g.K.Disk.held s.disk) s.headers.items s.catalog.tables s.runs.items s.pins.items c.at-at.result c.table_at-table.result.now
     c.run_at-run.result c.in-Ok.rows s.told (search rules) (search rules) (search rules) (search rules) (search rules))
 
 -- the pages are the due ones
@@ -41,7 +41,7 @@ pub invariant_of-self-in-Err-Broken-clause-sound : goal.invariant_of-self-in-Err
 invariant_of-self-in-Err-Broken-clause-sound g c =
     let s = c.args.self.now in
     moved (g.K.Disk.held s.disk) (g.K.Disk.held c.read_table.new.disk) c.in-Err-Broken.ensures.held
-    (never_broken (g.K.Disk.held s.disk) s.dues.items s.catalog.tables s.runs.items c.args.t c.table_at-table.result.now c.run_at-run.result
+    (never_broken (g.K.Disk.held s.disk) s.headers.items s.catalog.tables s.runs.items c.args.t c.table_at-table.result.now c.run_at-run.result
     c.count_fault.new.faults s.readable (search rules) (search rules) (search rules) (search rules))
 
 pub invariant_of-self-in-Ok-clause-places : goal.invariant_of-self-in-Ok-clause-places

@@ -2,7 +2,7 @@ use Rattle.std.proofs.Common.{◌<◌, length, arith}
 use Rattle.hq_sql_tree.specs.View.{expr_view}
 use Rattle.hq_sql_tree.specs.Form.{expr_fits}
 use Rattle.hq_sql_tree.proofs.Next.{all_pass}
-use Rattle.hq_sql_tree.proofs.fits.exprs_fit.Goals as goal
+use Rattle.hq_sql_tree.proofs.representable.exprs_fit.Goals as goal
 
 pub loop-expr-preserved : goal.loop-expr-preserved
 loop-expr-preserved c =

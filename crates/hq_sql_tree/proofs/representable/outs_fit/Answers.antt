@@ -2,7 +2,7 @@ use Rattle.std.proofs.Common.{◌<◌, length, arith}
 use Rattle.hq_sql_tree.specs.View.{out_view}
 use Rattle.hq_sql_tree.specs.Form.{out_fits}
 use Rattle.hq_sql_tree.proofs.Next.{all_pass}
-use Rattle.hq_sql_tree.proofs.fits.outs_fit.Goals as goal
+use Rattle.hq_sql_tree.proofs.representable.outs_fit.Goals as goal
 
 pub loop-out-preserved : goal.loop-out-preserved
 loop-out-preserved c =

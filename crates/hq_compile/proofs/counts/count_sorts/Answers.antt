@@ -4,7 +4,7 @@ use Rattle.hq_request_tree.specs.Arguments.{arguments_view}
 use Rattle.hq_translation.specs.Lists.{list_sorts}
 use Rattle.hq_compile_tables.specs.Contexts.{context_schema}
 use Rattle.hq_compile.proofs.SortCounts.{list_sorts-length}
-use Rattle.hq_compile.proofs.few.count_sorts.Goals as goal
+use Rattle.hq_compile.proofs.counts.count_sorts.Goals as goal
 
 -- the sum that was counted is no smaller than the number of sort keys
 pub returns : goal.returns

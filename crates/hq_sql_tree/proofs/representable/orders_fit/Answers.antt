@@ -2,7 +2,7 @@ use Rattle.std.proofs.Common.{◌∙◌, ap, ◌<◌, length, arith}
 use Rattle.hq_sql_tree.specs.View.{order_view}
 use Rattle.hq_sql_tree.specs.Form.{expr_fits, order_fits}
 use Rattle.hq_sql_tree.proofs.Next.{all_pass, view_key}
-use Rattle.hq_sql_tree.proofs.fits.orders_fit.Goals as goal
+use Rattle.hq_sql_tree.proofs.representable.orders_fit.Goals as goal
 
 pub loop-order-preserved : goal.loop-order-preserved
 loop-order-preserved c =

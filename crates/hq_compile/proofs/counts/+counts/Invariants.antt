@@ -2,7 +2,7 @@ use Rattle.std.proofs.Common.{drop}
 use Rattle.hq_translation.specs.Correct.{AreFew, AreFewParts}
 use Rattle.hq_compile_tables.specs.Contexts.{context_schema}
 use Rattle.hq_compile.specs.Fields.{fields_view, parts_view}
-use Rattle.hq_compile.proofs.few.+few.Given as goal
+use Rattle.hq_compile.proofs.counts.+counts.Given as goal
 
 -- all are few where those that are left are
 abbrev pub invariant-count_fields-loop-keyed : goal.invariant-count_fields-loop-keyed

@@ -2,7 +2,7 @@ use Rattle.std.proofs.Common.{◌≡◌, drop, map}
 use Rattle.std.specs.List.{list_all}
 use Rattle.hq_sql_tree.specs.View.{out_view}
 use Rattle.hq_sql_tree.specs.Form.{out_fits}
-use Rattle.hq_sql_tree.proofs.fits.outs_fit.Given as goal
+use Rattle.hq_sql_tree.proofs.representable.outs_fit.Given as goal
 
 -- those that are left fit exactly where all do
 abbrev pub invariant-loop-out : goal.invariant-loop-out

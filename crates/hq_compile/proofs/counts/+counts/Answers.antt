@@ -5,7 +5,7 @@ use Rattle.hq_request_tree.specs.declared.field.KeyedAskField.{KeyedAskField}
 use Rattle.hq_translation.specs.Correct.{AreFew, AreFewParts}
 use Rattle.hq_compile_tables.specs.Contexts.{context_schema}
 use Rattle.hq_compile.specs.Fields.{fields_view, parts_view}
-use Rattle.hq_compile.proofs.few.+few.Goals as goal
+use Rattle.hq_compile.proofs.counts.+counts.Goals as goal
 
 -- a field that is counted stands first in what was left
 pub count_fields-loop-keyed-preserved : goal.count_fields-loop-keyed-preserved

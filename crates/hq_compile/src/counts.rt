@@ -67,7 +67,7 @@ fn rows_table(context: &Context, t: TableId, table: TableId, rel: Option<RelId>)
 }
 
 /// Counts the lists of fields at a row of table t.
-#[cycle(few)]
+#[cycle(counts)]
 pub(crate) fn count_fields(
     alloc: Global,
     context: &Context,
@@ -82,7 +82,7 @@ pub(crate) fn count_fields(
     Ok(())
 }
 
-#[cycle(few)]
+#[cycle(counts)]
 fn count_keyed(
     alloc: Global,
     context: &Context,
@@ -94,7 +94,7 @@ fn count_keyed(
     count_field(alloc, context, t, &keyed.field)
 }
 
-#[cycle(few)]
+#[cycle(counts)]
 fn count_field(alloc: Global, context: &Context, t: TableId, field: &AskField) -> Result<(), Memory>
     ensures { OnOk result (IsFew (field_view field.now) (context_schema context.now) t) }
 {
@@ -130,7 +130,7 @@ fn count_field(alloc: Global, context: &Context, t: TableId, field: &AskField) -
     }
 }
 
-#[cycle(few)]
+#[cycle(counts)]
 fn count_parts(alloc: Global, context: &Context, u: TableId, parts: &AggParts) -> Result<(), Memory>
     ensures { OnOk result (AreFewParts (parts_view parts.now.items) (context_schema context.now) u) }
 {
@@ -140,7 +140,7 @@ fn count_parts(alloc: Global, context: &Context, u: TableId, parts: &AggParts) -
     Ok(())
 }
 
-#[cycle(few)]
+#[cycle(counts)]
 fn count_keyed_part(
     alloc: Global,
     context: &Context,
@@ -152,7 +152,7 @@ fn count_keyed_part(
     count_part(alloc, context, u, &keyed.part)
 }
 
-#[cycle(few)]
+#[cycle(counts)]
 fn count_part(alloc: Global, context: &Context, u: TableId, part: &AggPart) -> Result<(), Memory>
     ensures { OnOk result (IsFewPart (part_view part.now) (context_schema context.now) u) }
 {
