@@ -6,9 +6,9 @@ mod laws;
 mod operation;
 mod reading;
 mod refusal;
-mod request;
+mod typed_request;
 mod validation;
 
 pub use laws::requests_are_made;
 pub use refusal::RequestRefusal;
-pub use request::request;
+pub use typed_request::request;

@@ -4,9 +4,6 @@ pub mod Laws
 pub mod KnownField
 pub mod Looks
 pub mod Summaries
-pub mod Heads
 pub mod Asked
-pub mod Parts
 pub mod Seen
-pub mod HeadSeen
 pub mod Due

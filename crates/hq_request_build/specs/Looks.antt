@@ -5,6 +5,7 @@ use Rattle.hq_request_arguments.specs.Context.{Context}
 use Rattle.hq_request_build.specs.KnownField.{Due, refused, KnownField, known_due, leads_to, deprecated_of}
 use Rattle.hq_request_tree.specs.Introspection.{IntrospectionTree, look, IntrospectionTrees, no_look, looks}
 use Rattle.hq_request_collect.specs.Tree.{CollectedTrees, no_collected, collected, is_empty}
+use Rattle.hq_request_collect.specs.TreeSeen.{FieldSeen}
 use Rattle.hq_gql_tree.specs.Selections.{FieldHead}
 use Rattle.hq_gql_tree.specs.declared.rule.RuleId.TheVariants as rule
 use Rattle.hq_schema.specs.declared.origin.FieldOrigin.{FieldOrigin}
@@ -26,3 +27,7 @@ looks_due c place t no_collected = Ok no_look
 looks_due c place t (collected key h below others) =
     (known_due c place t h (is_empty below) >>= look_of h (λ k. looks_due c (leads_to k) t below))
     >>= λ f. mapped (looks key f) (looks_due c place t others)
+
+-- one of these
+abbrev pub look_due : Context → (place t : ℕ) → FieldSeen → Due IntrospectionTree
+look_due c place t f = known_due c place t f.head (is_empty f.below) >>= look_of f.head (λ k. looks_due c (leads_to k) t f.below)

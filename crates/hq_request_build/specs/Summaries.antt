@@ -10,6 +10,7 @@ use Rattle.hq_request_tree.specs.declared.aggregate.AggField.TheVariants as take
 use Rattle.hq_request_tree.specs.declared.aggregate.KeyedAggCol.{KeyedAggCol}
 use Rattle.hq_request_tree.specs.declared.aggregate.KeyedAggField.{KeyedAggField}
 use Rattle.hq_request_collect.specs.Tree.{CollectedTrees, no_collected, collected, is_empty}
+use Rattle.hq_request_collect.specs.TreeSeen.{FieldSeen}
 use Rattle.hq_gql_tree.specs.Selections.{FieldHead}
 use Rattle.hq_gql_tree.specs.declared.rule.RuleId.TheVariants as rule
 use Rattle.hq_schema.specs.declared.origin.FieldOrigin.{FieldOrigin}
@@ -31,6 +32,10 @@ taken_due c place t (collected key h below others) =
     (known_due c place t h (is_empty below) >>= λ k. taken_by c place h k.0.origin)
     >>= λ f. mapped (with_taken key f) (taken_due c place t others)
 
+-- one of these
+abbrev pub one_taken_due : Context → (place t : ℕ) → FieldSeen → Due AggCol
+one_taken_due c place t f = known_due c place t f.head (is_empty f.below) >>= λ k. taken_by c place f.head k.0.origin
+
 -- a field of aggregate, by what it stands for and its arguments, where `below` are the fields below it
 abbrev pub summary_by : Context → (place : ℕ) → FieldHead → KnownField → (below : Due (List KeyedAggCol)) → FieldOrigin → Due AggField
 summary_by c place h k below origin.Count = mapped (λ x. take.Count x.0 x.1) (count_of h k.1)
@@ -47,3 +52,7 @@ summaries_due c place t no_collected = Ok []
 summaries_due c place t (collected key h below others) =
     (known_due c place t h (is_empty below) >>= λ k. summary_by c place h k (taken_due c (leads_to k) t below) k.0.origin)
     >>= λ f. mapped (with_summary key f) (summaries_due c place t others)
+
+-- one of these
+abbrev pub one_summary_due : Context → (place t : ℕ) → FieldSeen → Due AggField
+one_summary_due c place t f = known_due c place t f.head (is_empty f.below) >>= λ k. summary_by c place f.head k (taken_due c (leads_to k) t f.below) k.0.origin

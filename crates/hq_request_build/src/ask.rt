@@ -1,23 +1,20 @@
 //! The typed request of collected fields.
-ghost use Rattle.std.specs.Prelude.{◌≡◌, map, false};
+ghost use Rattle.std.specs.Prelude.{◌≡◌, map};
 ghost use Rattle.hq_base.specs.Due.{Gives, mapped};
 ghost use Rattle.hq_request_arguments.specs.Context.{context_view};
-ghost use Rattle.hq_request_build.specs.Asked.{fields_due, parts_due, with_below};
-ghost use Rattle.hq_request_build.specs.HeadSeen.{head_view};
-ghost use Rattle.hq_request_build.specs.KnownField.{type_name_due};
-ghost use Rattle.hq_request_build.specs.Looks.{looks_due};
-ghost use Rattle.hq_request_build.specs.Parts.{below_of, field_due, part_due, part_of};
+ghost use Rattle.hq_request_build.specs.Asked.{aggregate_by, below_of, field_due, field_of, fields_due, introspect_by, introspect_named, list_by, part_due, part_of, parts_due, row_by};
+ghost use Rattle.hq_request_build.specs.KnownField.{leads_to, type_name_due};
 ghost use Rattle.hq_request_build.specs.Seen.{known_view};
 ghost use Rattle.hq_request_build.specs.Summaries.{summaries_due};
 ghost use Rattle.hq_request_tree.specs.Arguments.{arguments_view};
 ghost use Rattle.hq_request_tree.specs.Fields.{fields_of, parts_of, field_view, part_view, keyed_field_view, keyed_part_view};
-ghost use Rattle.hq_request_tree.specs.Fields.{origin_of, object, list, by_key, aggregate, introspect, summary, nodes, part_typename};
-ghost use Rattle.hq_request_tree.specs.Introspection.{look};
+ghost use Rattle.hq_request_tree.specs.Fields.{origin_of, object, list, by_key, aggregate, summary, nodes, part_typename, typename};
 ghost use Rattle.hq_request_coerce.specs.declared.refusal.CoerceRefusal.TheVariants as refusal;
 ghost use Rattle.hq_request_collect.specs.TreeSeen.{collected_view, trees_of, parts_seen};
 
-use crate::heads::{Head, head_of};
-use crate::known::{KnownField, known_field_of, refused, type_name_at};
+use crate::known::{
+    KnownField, key_of, known_field_of, refused, rows_of, type_name_at, type_name_of,
+};
 use crate::looks::{ask_looks, look_of};
 use crate::summaries::ask_summaries;
 use hq_base::Txt;
@@ -78,7 +75,20 @@ fn aggregate(table: TableId, rel: Option<RelId>, args: Args, parts: AggParts) ->
     }
 }
 
-// A field of introspection, of a type of some name.
+// The name of the type of a place.
+fn type_name(
+    alloc: Global,
+    context: &Context<'_>,
+    place: TypeId,
+    field: &CollectedField<'_>,
+) -> Result<AskField, CoerceRefusal>
+    ensures { let c = context_view context.now in Gives field_view refusal.Memory (mapped typename (type_name_due c.schema place (parts_seen field.now).head)) result }
+{
+    let name = type_name_at(alloc, context.schema, place, field)?;
+    Ok(AskField::Typename { name })
+}
+
+// Introspection, of a type of some name.
 fn introspect(
     alloc: Global,
     context: &Context<'_>,
@@ -87,12 +97,27 @@ fn introspect(
     field: &CollectedField<'_>,
     type_name: Option<Txt>,
 ) -> Result<AskField, CoerceRefusal>
-    ensures { let f = parts_seen field.now in Gives field_view refusal.Memory
-        (mapped (λ fs. introspect (look f.head.name type_name false fs)) (looks_due (context_view context.now) to t f.below)) result }
+    ensures { let f = parts_seen field.now in Gives field_view refusal.Memory (introspect_by f.head type_name (below_of (context_view context.now) to t f.below)) result }
 {
     let fields = ask_looks(alloc, context, to, t, &field.below)?;
     let field = look_of(alloc, field, type_name, false, fields)?;
     Ok(AskField::Introspect { field })
+}
+
+// The same of the type that the argument names.
+fn introspect_named(
+    alloc: Global,
+    context: &Context<'_>,
+    t: TableId,
+    known: KnownField<'_>,
+    field: &CollectedField<'_>,
+) -> Result<AskField, CoerceRefusal>
+    ensures { let f = parts_seen field.now in let k = known_view known.entry in Gives field_view refusal.Memory
+        (introspect_named f.head k (below_of (context_view context.now) (leads_to k) t f.below)) result }
+{
+    let to = known.def.ty.base();
+    let name = type_name_of(Box::into_inner(known.args), field)?;
+    introspect(alloc, context, to, t, field, Some(name))
 }
 
 // `aggregate` of an aggregate.
@@ -109,7 +134,7 @@ fn summary_part(
     Ok(AggPart::Fields(fields))
 }
 
-// The name of the type of a place.
+// The same as a part of an aggregate.
 fn type_name_part(
     alloc: Global,
     context: &Context<'_>,
@@ -172,9 +197,9 @@ fn ask_object(
     Ok(object(rel, fields))
 }
 
-// A list of a table's rows, with their fields.
+// A list of a table's rows with these arguments, with their fields.
 #[cycle(asking)]
-fn ask_list(
+fn ask_rows(
     alloc: Global,
     context: &Context<'_>,
     to: TypeId,
@@ -189,25 +214,47 @@ fn ask_list(
     Ok(list(table, rel, Box::into_inner(args), fields))
 }
 
+// A list of a table's rows.
+#[cycle(asking)]
+fn ask_list(
+    alloc: Global,
+    context: &Context<'_>,
+    t: TableId,
+    table: TableId,
+    rel: Option<RelId>,
+    known: KnownField<'_>,
+    field: &CollectedField<'_>,
+) -> Result<AskField, CoerceRefusal>
+    ensures { let f = parts_seen field.now in let k = known_view known.entry in Gives field_view refusal.Memory
+        (list_by table rel f.head k (below_of (context_view context.now) (leads_to k) t f.below)) result }
+{
+    let to = known.def.ty.base();
+    let args = rows_of(Box::into_inner(known.args), field)?;
+    ask_rows(alloc, context, to, table, rel, args, field)
+}
+
 // The row of a key of a table, with its fields.
 #[cycle(asking)]
 fn ask_row(
     alloc: Global,
     context: &Context<'_>,
-    to: TypeId,
+    t: TableId,
     table: TableId,
-    key: ValList,
+    known: KnownField<'_>,
     field: &CollectedField<'_>,
 ) -> Result<AskField, CoerceRefusal>
-    ensures { Gives field_view refusal.Memory (mapped (by_key table key) (fields_due (context_view context.now) to table (parts_seen field.now).below)) result }
+    ensures { let f = parts_seen field.now in let k = known_view known.entry in Gives field_view refusal.Memory
+        (row_by table f.head k (below_of (context_view context.now) (leads_to k) t f.below)) result }
 {
+    let to = known.def.ty.base();
+    let key = key_of(Box::into_inner(known.args), field)?;
     let fields = fields_below(alloc, context, to, table, field)?;
     Ok(by_key(table, key, fields))
 }
 
-// The aggregates over a list of a table's rows.
+// The aggregates over a list of a table's rows with these arguments.
 #[cycle(asking)]
-fn ask_aggregate(
+fn ask_totals(
     alloc: Global,
     context: &Context<'_>,
     to: TypeId,
@@ -225,27 +272,62 @@ fn ask_aggregate(
     Ok(aggregate(table, rel, Box::into_inner(args), parts))
 }
 
-// A field with what stands below it in the type that it leads to.
+// The aggregates over a list of a table's rows.
 #[cycle(asking)]
-fn with_below(
+fn ask_aggregate(
     alloc: Global,
     context: &Context<'_>,
-    to: TypeId,
     t: TableId,
+    table: TableId,
+    rel: Option<RelId>,
+    known: KnownField<'_>,
     field: &CollectedField<'_>,
-    head: Head,
 ) -> Result<AskField, CoerceRefusal>
-    ensures { let f = parts_seen field.now in Gives field_view refusal.Memory (with_below f.head (below_of (context_view context.now) to t f.below) (head_view head)) result }
+    ensures { let f = parts_seen field.now in let k = known_view known.entry in Gives field_view refusal.Memory
+        (aggregate_by table rel f.head k (below_of (context_view context.now) (leads_to k) t f.below)) result }
 {
-    match head {
-        Head::Leaf(leaf) => Ok(leaf),
-        Head::Object { rel, table } => ask_object(alloc, context, to, table, rel, field),
-        Head::List { table, rel, args } => { ask_list(alloc, context, to, table, rel, args, field) }
-        Head::Key { table, key } => ask_row(alloc, context, to, table, key, field),
-        Head::Aggregate { table, rel, args } => {
-            ask_aggregate(alloc, context, to, table, rel, args, field)
+    let to = known.def.ty.base();
+    let args = rows_of(Box::into_inner(known.args), field)?;
+    ask_totals(alloc, context, to, table, rel, args, field)
+}
+
+// A field of the root, or at a row of a table, by what it stands for.
+#[cycle(asking)]
+fn field_by(
+    alloc: Global,
+    context: &Context<'_>,
+    place: TypeId,
+    t: TableId,
+    known: KnownField<'_>,
+    field: &CollectedField<'_>,
+) -> Result<AskField, CoerceRefusal>
+    ensures { Gives field_view refusal.Memory (field_of (context_view context.now) place t (parts_seen field.now) (known_view known.entry)) result }
+{
+    let to = known.def.ty.base();
+    match known.def.origin {
+        FieldOrigin::Column(col) => Ok(AskField::Column { col }),
+        FieldOrigin::TypeName => type_name(alloc, context, place, field),
+        FieldOrigin::NoQueries => Ok(AskField::NoQueries),
+        FieldOrigin::Object(rel) => {
+            let table = context.scope.remote(t, rel);
+            ask_object(alloc, context, to, table, rel, field)
         }
-        Head::Introspect { type_name } => introspect(alloc, context, to, t, field, type_name),
+        FieldOrigin::List(rel) => {
+            let table = context.scope.remote(t, rel);
+            ask_list(alloc, context, t, table, Some(rel), known, field)
+        }
+        FieldOrigin::ListAggregate(rel) => {
+            let table = context.scope.remote(t, rel);
+            ask_aggregate(alloc, context, t, table, Some(rel), known, field)
+        }
+        FieldOrigin::Rows(table) => ask_list(alloc, context, t, table, None, known, field),
+        FieldOrigin::RowsAggregate(table) => {
+            ask_aggregate(alloc, context, t, table, None, known, field)
+        }
+        FieldOrigin::RowByKey(table) => ask_row(alloc, context, t, table, known, field),
+        FieldOrigin::Schema => introspect(alloc, context, to, t, field, None),
+        FieldOrigin::Type => introspect_named(alloc, context, t, known, field),
+        _ => Err(refused(RuleId::FieldSelections, field)),
     }
 }
 
@@ -261,9 +343,7 @@ fn ask_field(
     ensures { Gives field_view refusal.Memory (field_due (context_view context.now) place t (parts_seen field.now)) result }
 {
     let known = known_field_of(alloc, context, place, t, field)?;
-    let to = known.def.ty.base();
-    let head = head_of(alloc, context, place, t, known, field)?;
-    with_below(alloc, context, to, t, field, head)
+    field_by(alloc, context, place, t, known, field)
 }
 
 /// The fields in the type of a place, of the root or at a row of a table.

@@ -5,7 +5,6 @@ mod ask;
 mod bound;
 mod conditions;
 mod fields;
-mod heads;
 mod known;
 mod laws;
 mod looks;

@@ -1,6 +1,6 @@
 -- Root fields, in other numbers: they stand at no table.
 use Rattle.std.proofs.Common.{◌≡◌, ◌∙◌, refl, sym, ap, subst, ℕ, List, [], map, Bool, true, false, codes, Some, None}
-use Rattle.hq_base.specs.Due.{mapped, and_then, ◌>>=◌}
+use Rattle.hq_base.specs.Due.{mapped, ◌>>=◌}
 use Rattle.hq_base.specs.Lists.{Each}
 use Rattle.hq_model.specs.Schema.{Schema}
 use Rattle.hq_gql_tree.specs.Selections.{FieldHead}
@@ -17,9 +17,8 @@ use Rattle.hq_request_arguments.specs.FieldArguments as given
 use Rattle.hq_request_arguments.specs.Keys.{key_due}
 use Rattle.hq_request_arguments.specs.Plain.{text_due}
 use Rattle.hq_request_arguments.specs.Reading.{given_named}
-use Rattle.hq_request_build.specs.Asked.{with_below, field_of, fields_due}
+use Rattle.hq_request_build.specs.Asked.{field_by, fields_due}
 use Rattle.hq_request_build.specs.Due.{root_due}
-use Rattle.hq_request_build.specs.Heads.{head_by}
 use Rattle.hq_request_build.specs.KnownField.{Due, KnownField, known_due}
 use Rattle.hq_request_build.specs.Looks.{looks_due}
 use Rattle.hq_request_tree.specs.Fields.{FieldTree, field, by_key, introspect}
@@ -59,8 +58,8 @@ module _ (s z : Schema) (n : Renumbering) (a : Access) (r : SchemaTree) (of_role
         → asked d r.query there h below g (map (arg_over n v) f.args) (origin.RowByKey (n.table u)) ≡ mapped over (asked c r.query root h below f f.args (origin.RowByKey u))
     key_root u seen keyed at args is =
         argued over h.at given.key given.key (λ x. x) (key_due c f.args h.args u) (key_due d (map (arg_over n v) f.args) h.args (n.table u))
-        (λ y. and_then (with_below h (below_at c root below f)) (head_by c r.query root h (f, y) (origin.RowByKey u)))
-        (λ y. and_then (with_below h (below_at d there below g)) (head_by d r.query there h (g, y) (origin.RowByKey (n.table u))))
+        (λ y. field_by c r.query root h (f, y) (below_at c root below f) (origin.RowByKey u))
+        (λ y. field_by d r.query there h (g, y) (below_at d there below g) (origin.RowByKey (n.table u)))
         (ap (λ w. key_due d (map (arg_over n w) f.args) h.args (n.table u)) is
         ∙ key_over s z n a r of_role alike vars u seen keyed f.args args h.args ∙ sym (mapped_itself (key_due c f.args h.args u)))
         (λ vs. mapped_over (λ fs. fields_over fs s n u) over (by_key u vs) (by_key (n.table u) vs) (λ fs. refl) (fields_due c (base f.ty) u below) (fields_due d (base g.ty) (n.table u) below)
@@ -101,8 +100,8 @@ module _ (s z : Schema) (n : Renumbering) (a : Access) (r : SchemaTree) (of_role
   type_root h below v =
       argued over h.at given.type_name given.type_name (λ x. x) (text_due (given_named c type_field.args h.args (codes "name")))
       (text_due (given_named d (map (arg_over n v) type_field.args) h.args (codes "name")))
-      (λ y. and_then (with_below h (below_at c root below type_field)) (head_by c r.query root h (type_field, y) origin.«Type»))
-      (λ y. and_then (with_below h (below_at d there below type_field)) (head_by d r.query there h (type_field, y) origin.«Type»))
+      (λ y. field_by c r.query root h (type_field, y) (below_at c root below type_field) origin.«Type»)
+      (λ y. field_by d r.query there h (type_field, y) (below_at d there below type_field) origin.«Type»)
       (ap text_due (named_given n vars r (schema_over n r) s z v type_field.args h.args (codes "name")) ∙ text_over n v (given_named c type_field.args h.args (codes "name"))
       ∙ sym (mapped_itself (text_due (given_named c type_field.args h.args (codes "name")))))
       (λ name. mapped_same over (λ fs. introspect (look h.name (Some name) false fs)) (λ fs. introspect (look h.name (Some name) false fs)) (λ fs. refl) (looks_due c (base type_field.ty) root below)
@@ -132,8 +131,8 @@ module _ (s z : Schema) (n : Renumbering) (a : Access) (r : SchemaTree) (of_role
   pub roots_over : (trees : CollectedTrees) → root_due vars (schema_over n r) z there trees ≡ mapped (λ fs. fields_over fs s n root) (root_due vars r s root trees)
   roots_over no_collected = refl
   roots_over (collected key h below others) =
-      let next : KnownField → Due FieldTree = field_of c r.query root h (λ k. below_at c root below k.0) in
-      let more : KnownField → Due FieldTree = field_of d r.query there h (λ k. below_at d there below k.0) in
+      let next : KnownField → Due FieldTree = λ k. field_by c r.query root h k (below_at c root below k.0) k.0.origin in
+      let more : KnownField → Due FieldTree = λ k. field_by d r.query there h k (below_at d there below k.0) k.0.origin in
       then_over over (λ fs. fields_over fs s n root) (λ x. mapped (field key x) (fields_due c r.query root others)) (λ x. mapped (field key x) (fields_due d r.query there others))
       (known_due c r.query root h (is_empty below) >>= next) (known_due d r.query there h (is_empty below) >>= more)
       (known_over s z n a r of_role vars over r.query type.Query of_role.root root there h (is_empty below) next more (one_root h below))

@@ -1,5 +1,5 @@
 -- Fields at rows of a table and parts of aggregates, with all that stands below them, in other numbers.
-use Rattle.std.proofs.Common.{◌≡◌, ◌∙◌, refl, sym, ap, ap₂, subst, ℕ, List, [], map, Bool, true, false, not, Option, Some, None, Ok, Err}
+use Rattle.std.proofs.Common.{◌≡◌, ◌∙◌, refl, sym, ap, ap₂, subst, ℕ, List, [], map, Bool, true, false, not, Option, Some, None}
 use Rattle.hq_base.specs.Due.{mapped, and_then, ◌>>=◌}
 use Rattle.hq_base.specs.Lists.{Each}
 use Rattle.hq_model.specs.Schema.{Schema, rel}
@@ -16,9 +16,7 @@ use Rattle.hq_schema_roles.specs.Leads.{to, where_holds, behind_one, behind_many
 use Rattle.hq_request_arguments.specs.Context.{Context}
 use Rattle.hq_request_arguments.specs.Due.{at_field, by_origin, list_due}
 use Rattle.hq_request_arguments.specs.FieldArguments.{FieldArguments, rows}
-use Rattle.hq_request_build.specs.Asked.{with_below, field_of, part_by, fields_due, parts_due}
-use Rattle.hq_request_build.specs.Asked as due
-use Rattle.hq_request_build.specs.Heads.{leaf, list_head_due, aggregate_head_due, head_by}
+use Rattle.hq_request_build.specs.Asked.{Below, aggregate_by, field_by, list_by, part_by, fields_due, parts_due}
 use Rattle.hq_request_build.specs.KnownField.{Due, KnownField, known_due, leads_to, type_name_due}
 use Rattle.hq_request_build.specs.Looks.{looks_due}
 use Rattle.hq_request_build.specs.Summaries.{summaries_due}
@@ -38,7 +36,7 @@ use Rattle.hq_laws_renumbered.proofs.Requests.Steps.{then_over, mapped_over}
 use Rattle.hq_laws_renumbered.proofs.Requests.Summaries.{named_by, summaries_over}
 
 -- what stands below a field of this definition
-abbrev pub below_at : Context → (t : ℕ) → CollectedTrees → schema.FieldTree → due.Below
+abbrev pub below_at : Context → (t : ℕ) → CollectedTrees → schema.FieldTree → Below
 below_at c t below f = record {
   fields = λ u. fields_due c (base f.ty) u below;
   parts = λ u. parts_due c (base f.ty) u below;
@@ -48,7 +46,7 @@ below_at c t below f = record {
 -- a field with these arguments, by what it stands for
 abbrev pub asked : Context → (place t : ℕ) → FieldHead → CollectedTrees → schema.FieldTree → List ArgTree → FieldOrigin → Due FieldTree
 asked c place t h below f args o =
-    and_then (λ (x : FieldArguments). and_then (with_below h (below_at c t below f)) (head_by c place t h (f, x) o)) (at_field h.at (by_origin c t args h.args o))
+    and_then (λ (x : FieldArguments). field_by c place t h (f, x) (below_at c t below f) o) (at_field h.at (by_origin c t args h.args o))
 
 module _ (s z : Schema) (n : Renumbering) (a : Access) (r : SchemaTree) (of_role : IsOfRole s a r) (alike : TablesAlike s z n a) (vars : List VarTree) where
   abbrev c : Context
@@ -78,11 +76,11 @@ module _ (s z : Schema) (n : Renumbering) (a : Access) (r : SchemaTree) (of_role
 
     -- a list of rows of table u, and the aggregates over one, that begin at an origin
     abbrev listed : Context → (t u : ℕ) → Option ℕ → schema.FieldTree → List ArgTree → Due FieldTree
-    listed x w u o k args = and_then (λ (y : FieldArguments). and_then (with_below h (below_at x w below k)) (list_head_due u o h (k, y))) (at_field h.at (mapped rows (list_due x args h.args u)))
+    listed x w u o k args = and_then (λ (y : FieldArguments). list_by u o h (k, y) (below_at x w below k)) (at_field h.at (mapped rows (list_due x args h.args u)))
 
     abbrev totalled : Context → (t u : ℕ) → Option ℕ → schema.FieldTree → List ArgTree → Due FieldTree
     totalled x w u o k args =
-        and_then (λ (y : FieldArguments). and_then (with_below h (below_at x w below k)) (aggregate_head_due u o h (k, y)))
+        and_then (λ (y : FieldArguments). aggregate_by u o h (k, y) (below_at x w below k))
         (at_field h.at (mapped rows (list_due x args h.args u)))
 
     pub listed_over : (u : ℕ) (o q : Option ℕ) → origin_over (origin_of u o) n t ≡ origin_of (n.table u) q → origin_table (origin_of u o) s t ≡ u
@@ -90,7 +88,7 @@ module _ (s z : Schema) (n : Renumbering) (a : Access) (r : SchemaTree) (of_role
         → listed d t_there (n.table u) q g (map (arg_over n v) f.args) ≡ mapped over (listed c t u o f f.args)
     listed_over u o q begins starts at args =
         argued over h.at rows rows (λ x. arguments_over x s n u) (list_due c f.args h.args u) (list_due d (map (arg_over n v) f.args) h.args (n.table u))
-        (λ y. and_then (with_below h (below_at c t below f)) (list_head_due u o h (f, y))) (λ y. and_then (with_below h (below_at d t_there below g)) (list_head_due (n.table u) q h (g, y)))
+        (λ y. list_by u o h (f, y) (below_at c t below f)) (λ y. list_by (n.table u) q h (g, y) (below_at d t_there below g))
         (list_due_over s z n a r of_role alike vars u v f.args h.args args)
         (λ x. mapped_over (λ fs. fields_over fs s n u) over (list (origin_of u o) x) (list (origin_of (n.table u) q) (arguments_over x s n u))
         (λ fs. ap₂ (λ w y. list w (arguments_over x s n y) (fields_over fs s n y)) (sym begins) (sym starts))
@@ -101,7 +99,7 @@ module _ (s z : Schema) (n : Renumbering) (a : Access) (r : SchemaTree) (of_role
         → totalled d t_there (n.table u) q g (map (arg_over n v) f.args) ≡ mapped over (totalled c t u o f f.args)
     totalled_over u o q begins starts at args =
         argued over h.at rows rows (λ x. arguments_over x s n u) (list_due c f.args h.args u) (list_due d (map (arg_over n v) f.args) h.args (n.table u))
-        (λ y. and_then (with_below h (below_at c t below f)) (aggregate_head_due u o h (f, y))) (λ y. and_then (with_below h (below_at d t_there below g)) (aggregate_head_due (n.table u) q h (g, y)))
+        (λ y. aggregate_by u o h (f, y) (below_at c t below f)) (λ y. aggregate_by (n.table u) q h (g, y) (below_at d t_there below g))
         (list_due_over s z n a r of_role alike vars u v f.args h.args args)
         (λ x. mapped_over (λ ps. parts_over ps s n u) over (aggregate (origin_of u o) x) (aggregate (origin_of (n.table u) q) (arguments_over x s n u))
         (λ ps. ap₂ (λ w y. aggregate w (arguments_over x s n y) (parts_over ps s n y)) (sym begins) (sym starts))
@@ -109,13 +107,7 @@ module _ (s z : Schema) (n : Renumbering) (a : Access) (r : SchemaTree) (of_role
 
     -- the name of the type
     pub name_over_below : asked d place t_there h below g [] origin.TypeName ≡ mapped over (asked c place t h below f [] origin.TypeName)
-    name_over_below = go (type_name_due r place h) (type_name_due (schema_over n r) place h) (name_over n r place h)
-      where
-        go : (x y : Due (List ℕ)) → y ≡ x
-            → and_then (with_below h (below_at d t_there below g)) (mapped (λ name. leaf (typename name)) y)
-            ≡ mapped over (and_then (with_below h (below_at c t below f)) (mapped (λ name. leaf (typename name)) x))
-        go (Ok name) y e = ap (λ w. and_then (with_below h (below_at d t_there below g)) (mapped (λ name. leaf (typename name)) w)) e
-        go (Err e) y is = ap (λ w. and_then (with_below h (below_at d t_there below g)) (mapped (λ name. leaf (typename name)) w)) is
+    name_over_below = named_by over typename typename (λ name. refl) (type_name_due r place h) (type_name_due (schema_over n r) place h) (name_over n r place h)
 
   -- ---- one field at a row of table t
 
@@ -234,8 +226,8 @@ module _ (s z : Schema) (n : Renumbering) (a : Access) (r : SchemaTree) (of_role
   rows_one : (key : List ℕ) (h : FieldHead) (below others : CollectedTrees) → Inner below → Inner others → (place t : ℕ) → At types place (type.Rows t)
       → fields_due d place (n.table t) (collected key h below others) ≡ mapped (λ fs. fields_over fs s n t) (fields_due c place t (collected key h below others))
   rows_one key h below others inner later place t at =
-      let next : KnownField → Due FieldTree = field_of c place t h (λ k. below_at c t below k.0) in
-      let over : KnownField → Due FieldTree = field_of d place (n.table t) h (λ k. below_at d (n.table t) below k.0) in
+      let next : KnownField → Due FieldTree = λ k. field_by c place t h k (below_at c t below k.0) k.0.origin in
+      let over : KnownField → Due FieldTree = λ k. field_by d place (n.table t) h k (below_at d (n.table t) below k.0) k.0.origin in
       then_over (λ x. asked_over x s n t) (λ fs. fields_over fs s n t) (λ f. mapped (field key f) (fields_due c place t others)) (λ f. mapped (field key f) (fields_due d place (n.table t) others))
       (known_due c place t h (is_empty below) >>= next) (known_due d place (n.table t) h (is_empty below) >>= over)
       (known_over s z n a r of_role vars (λ x. asked_over x s n t) place (type.Rows t) at t (n.table t) h (is_empty below) next over (one_row h below inner place t at))

@@ -36,14 +36,13 @@ use Rattle.hq_schema_roles.specs.Differ.{TypeDiffers, ArgsDiffer}
 use Rattle.hq_schema_roles.specs.Leads.{where_holds, to, behind_one, behind_many, aggregates_behind, Reaches, ArgFits, list_target, remote_of, row_target, row_args, root_target, root_args, aggregate_target, over_target, over_args, column_target, introspection_target}
 use Rattle.hq_schema_of_role.specs.Fields.{list_args}
 use Rattle.hq_base.specs.declared.value.Ty.TheVariants as ty
-use Rattle.hq_request_tree.specs.Fields.{origin_of, field, typename, object, list, by_key, aggregate, introspect, part, summary, nodes, part_typename}
+use Rattle.hq_request_tree.specs.Fields.{FieldTree as Asked, origin_of, field, typename, object, list, by_key, aggregate, introspect, part, summary, nodes, part_typename}
 use Rattle.hq_request_tree.specs.Introspection.{look, IntrospectionTrees, looks}
 use Rattle.hq_request_tree.specs.declared.aggregate.AggCol.{AggCol}
 use Rattle.hq_request_tree.specs.declared.aggregate.AggCol.TheVariants as of
 use Rattle.hq_request_tree.specs.declared.aggregate.AggField.{AggField}
 use Rattle.hq_request_tree.specs.declared.aggregate.AggField.TheVariants as take
 use Rattle.hq_request_coerce.specs.Variables.{VarTree}
-use Rattle.hq_request_coerce.specs.declared.refusal.CoerceRefusal.TheVariants as coerce
 use Rattle.hq_request_collect.specs.Tree.{CollectedTrees, no_collected, collected, is_empty}
 use Rattle.hq_request_arguments.specs.Context.{Context}
 use Rattle.hq_request_arguments.specs.Due.{list_due, counting, count_due, by_origin, at_field}
@@ -53,9 +52,7 @@ use Rattle.hq_request_arguments.specs.Keys.{key_due}
 use Rattle.hq_request_arguments.specs.Plain.{flag_due, text_due}
 use Rattle.hq_request_arguments.specs.Reading.{Read, given_named}
 use Rattle.hq_request_arguments.specs.declared.refusal.ArgRefusal.TheVariants.{Rule, Memory}
-use Rattle.hq_request_build.specs.Asked.{with_below, field_of as asked_field, part_by, fields_due, parts_due}
-use Rattle.hq_request_build.specs.Asked as due
-use Rattle.hq_request_build.specs.Heads.{leaf, list_head, key_head, aggregate_head, introspect_head, head_by}
+use Rattle.hq_request_build.specs.Asked.{Below, field_by, introspect_by, part_by, fields_due, parts_due}
 use Rattle.hq_request_build.specs.KnownField.{Due, refused, is_complete, KnownField, known_of, known_due, leads_to, type_name_due, name_of_type, rows_of, key_of, count_of, type_name_of, deprecated_of}
 use Rattle.hq_request_build.specs.Looks.{flag_by, look_of, looks_due}
 use Rattle.hq_request_build.specs.Summaries.{taken_by, with_taken, taken_due, summary_by, with_summary, summaries_due}
@@ -329,45 +326,43 @@ module _ (tables : List Table) (m : MetaTree) (metadata_fits : fits tables m ≡
     parts : (place u : ℕ) → At types place (type.Aggregate u) → IsSound place under → IsBuilding (parts_due c place u under)
 
   -- what stands below one, as it is asked for
-  abbrev below_of : (t : ℕ) → CollectedTrees → KnownField → due.Below
+  abbrev below_of : (t : ℕ) → CollectedTrees → KnownField → Below
   below_of t under k = record {
     fields = λ u. fields_due c (leads_to k) u under;
     parts = λ u. parts_due c (leads_to k) u under;
     looks = looks_due c (leads_to k) t under;
   }
 
+  abbrev asked_field : (place t : ℕ) → FieldHead → CollectedTrees → KnownField → Due Asked
+  asked_field place t h under k = field_by c place t h k (below_of t under k) k.0.origin
+
   module _ (place t : ℕ) (h : FieldHead) (under : CollectedTrees) (inner : Inner under) (f : IsKnown place h (is_empty under)) (below : IsSound (base f.def.ty) under) (like : Like f.def) where
     -- a field of an origin, and what is asked for by it
     abbrev Wanted : FieldOrigin → Type 0
     Wanted o =
         Lawful (by_origin c t f.def.args h.args o)
-        × ((x : FieldArguments) → by_origin c t f.def.args h.args o ≡ Ok x → IsBuilding (head_by c place t h (f.def, x) o >>= with_below h (below_of t under (f.def, x))))
+        × ((x : FieldArguments) → by_origin c t f.def.args h.args o ≡ Ok x → IsBuilding (field_by c place t h (f.def, x) (below_of t under (f.def, x)) o))
 
     -- a list of rows of table u, and the aggregates over one
     list_asked : (u : ℕ) (r : Option ℕ) → At types (base f.def.ty) (type.Rows u) → (x : FieldArguments) → mapped rows (list_due c f.def.args h.args u) ≡ Ok x
-        → IsBuilding (mapped (list_head (origin_of u r) u) (rows_of h x) >>= with_below h (below_of t under (f.def, x)))
+        → IsBuilding (rows_of h x >>= λ y. mapped (list (origin_of u r) y) (fields_due c (base f.def.ty) u under))
     list_asked u r at x e =
         let one = mapped_ok rows (list_due c f.def.args h.args u) x e in
-        subst (λ (y : FieldArguments). IsBuilding (mapped (list_head (origin_of u r) u) (rows_of h y) >>= with_below h (below_of t under (f.def, y)))) one.2
+        subst (λ (y : FieldArguments). IsBuilding (rows_of h y >>= λ z. mapped (list (origin_of u r) z) (fields_due c (base f.def.ty) u under))) one.2
         (mapped_building (list (origin_of u r) one.0) (fields_due c (base f.def.ty) u under) (inner.rows (base f.def.ty) u at below))
 
     aggregate_asked : (u : ℕ) (r : Option ℕ) → At types (base f.def.ty) (type.Aggregate u) → (x : FieldArguments) → mapped rows (list_due c f.def.args h.args u) ≡ Ok x
-        → IsBuilding (mapped (aggregate_head (origin_of u r) u) (rows_of h x) >>= with_below h (below_of t under (f.def, x)))
+        → IsBuilding (rows_of h x >>= λ y. mapped (aggregate (origin_of u r) y) (parts_due c (base f.def.ty) u under))
     aggregate_asked u r at x e =
         let one = mapped_ok rows (list_due c f.def.args h.args u) x e in
-        subst (λ (y : FieldArguments). IsBuilding (mapped (aggregate_head (origin_of u r) u) (rows_of h y) >>= with_below h (below_of t under (f.def, y)))) one.2
+        subst (λ (y : FieldArguments). IsBuilding (rows_of h y >>= λ z. mapped (aggregate (origin_of u r) z) (parts_due c (base f.def.ty) u under))) one.2
         (mapped_building (aggregate (origin_of u r) one.0) (parts_due c (base f.def.ty) u under) (inner.parts (base f.def.ty) u at below))
 
     rows_lawful : (u : ℕ) → ((first : ℕ) × (f.def.args ≡ list_args first)) → Each (ArgFits types (list_target (Some u))) f.def.args → Lawful (mapped rows (list_due c f.def.args h.args u))
     rows_lawful u shape fit = mapped_lawful rows (list_due c f.def.args h.args u) (list_lawful tables m metadata_fits role schemed shaped vars d reach h.args u f.def.args shape fit f.arguments)
 
     name_wanted : (o : TypeOrigin) → At types place o → Wanted origin.TypeName
-    name_wanted o at = (tt, λ x e. by (type_name_due R place h) (name_building place o h at) x)
-      where
-        by : (n : Due (List ℕ)) → IsBuilding n → (x : FieldArguments) → IsBuilding (mapped (λ name. leaf (typename name)) n >>= with_below h (below_of t under (f.def, x)))
-        by (Ok name) g x = tt
-        by (Err (coerce.Fault q)) g x = g
-        by (Err coerce.Memory) g x = g
+    name_wanted o at = (tt, λ x e. mapped_building typename (type_name_due R place h) (name_building place o h at))
 
     -- a field at a row of table t
     row_wanted : Reaches types f.def.ty (row_target a t f.def.origin) → Each (ArgFits types (row_args a t f.def.origin)) f.def.args → (o : FieldOrigin) → f.def.origin ≡ o → Wanted o
@@ -426,10 +421,10 @@ module _ (tables : List Table) (m : MetaTree) (metadata_fits : fits tables m ≡
             through (Some q) found at fit = aggregate_at_row r q found shape fit q.many (a.aggregates q.remote) at
         by o at fit shape = absurd at
 
-    one_row : At types place (type.Rows t) → IsBuilding (known_due c place t h (is_empty under) >>= asked_field c place t h (below_of t under))
+    one_row : At types place (type.Rows t) → IsBuilding (known_due c place t h (is_empty under) >>= asked_field place t h under)
     one_row at =
         let both = by f.def refl (field_found tables m role schemed place (type.Rows t) h.name f.def at f.known) in
-        one_building place t h (is_empty under) f both.0 (asked_field c place t h (below_of t under)) both.1
+        one_building place t h (is_empty under) f both.0 (asked_field place t h under) both.1
       where
         by : (def : FieldTree) → f.def ≡ def → Found tables m role schemed place (type.Rows t) h.name def → Wanted f.def.origin
         by def is (own i) = let j : IsField tables m role schemed (type.Rows t) f.def = subst (IsField tables m role schemed (type.Rows t)) (sym is) i in
@@ -465,10 +460,10 @@ module _ (tables : List Table) (m : MetaTree) (metadata_fits : fits tables m ≡
 
     -- a root field
     key_asked : (u : ℕ) → At types (base f.def.ty) (type.Rows u) → (x : FieldArguments) → mapped key (key_due c f.def.args h.args u) ≡ Ok x
-        → IsBuilding (mapped (key_head u) (key_of h x) >>= with_below h (below_of t under (f.def, x)))
+        → IsBuilding (key_of h x >>= λ vs. mapped (by_key u vs) (fields_due c (base f.def.ty) u under))
     key_asked u at x e =
         let one = mapped_ok key (key_due c f.def.args h.args u) x e in
-        subst (λ (y : FieldArguments). IsBuilding (mapped (key_head u) (key_of h y) >>= with_below h (below_of t under (f.def, y)))) one.2
+        subst (λ (y : FieldArguments). IsBuilding (key_of h y >>= λ vs. mapped (by_key u vs) (fields_due c (base f.def.ty) u under))) one.2
         (mapped_building (by_key u one.0) (fields_due c (base f.def.ty) u under) (inner.rows (base f.def.ty) u at below))
 
     root_wanted : Reaches types f.def.ty (root_target a f.def.origin) → Each (ArgFits types (root_args a f.def.origin)) f.def.args → (o : FieldOrigin) → f.def.origin ≡ o → Wanted o
@@ -524,17 +519,17 @@ module _ (tables : List Table) (m : MetaTree) (metadata_fits : fits tables m ≡
         same = ap (λ (x : FieldTree). x.args) is
 
         asked : (x : FieldArguments) → mapped type_name (text_due (given_named c f.def.args h.args (codes "name"))) ≡ Ok x
-            → IsBuilding (mapped (λ name. introspect_head (Some name)) (type_name_of h x) >>= with_below h (below_of t under (f.def, x)))
+            → IsBuilding (type_name_of h x >>= λ name. introspect_by h (Some name) (below_of t under (f.def, x)))
         asked x e =
             let one = mapped_ok type_name (text_due (given_named c f.def.args h.args (codes "name"))) x e in
-            subst (λ (y : FieldArguments). IsBuilding (mapped (λ name. introspect_head (Some name)) (type_name_of h y) >>= with_below h (below_of t under (f.def, y)))) one.2
+            subst (λ (y : FieldArguments). IsBuilding (type_name_of h y >>= λ name. introspect_by h (Some name) (below_of t under (f.def, y)))) one.2
             (mapped_building (λ (fs : IntrospectionTrees). introspect (look h.name (Some one.0) false fs)) (looks_due c (base f.def.ty) t under)
             (looks_below (subst (λ (x : FieldTree). LooksAt x.ty) (sym is) (fixed.«Type», refl, refl))))
 
-    one_root : At types place type.Query → IsBuilding (known_due c place t h (is_empty under) >>= asked_field c place t h (below_of t under))
+    one_root : At types place type.Query → IsBuilding (known_due c place t h (is_empty under) >>= asked_field place t h under)
     one_root at =
         let both = by f.def refl (field_found tables m role schemed place type.Query h.name f.def at f.known) in
-        one_building place t h (is_empty under) f both.0 (asked_field c place t h (below_of t under)) both.1
+        one_building place t h (is_empty under) f both.0 (asked_field place t h under) both.1
       where
         by : (def : FieldTree) → f.def ≡ def → Found tables m role schemed place type.Query h.name def → Wanted f.def.origin
         by def is (own i) = let j : IsField tables m role schemed type.Query f.def = subst (IsField tables m role schemed type.Query) (sym is) i in
@@ -548,7 +543,7 @@ module _ (tables : List Table) (m : MetaTree) (metadata_fits : fits tables m ≡
   rows_of_all : (k : List ℕ) (h : FieldHead) (under others : CollectedTrees) → Inner under → Inner others → (place u : ℕ) → At types place (type.Rows u) → IsSound place (collected k h under others)
       → IsBuilding (fields_due c place u (collected k h under others))
   rows_of_all k h under others inner rest place u at sound =
-      then_building (λ x. mapped (field k x) (fields_due c place u others)) (known_due c place u h (is_empty under) >>= asked_field c place u h (below_of u under))
+      then_building (λ x. mapped (field k x) (fields_due c place u others)) (known_due c place u h (is_empty under) >>= asked_field place u h under)
       (one_row place u h under inner sound.0 sound.1 (field_like place (type.Rows u) h.name sound.0.def at sound.0.known) at)
       (λ x e. mapped_building (field k x) (fields_due c place u others) (rest.rows place u at sound.2))
 
@@ -572,7 +567,7 @@ module _ (tables : List Table) (m : MetaTree) (metadata_fits : fits tables m ≡
   pub roots_building : (trees : CollectedTrees) (t : ℕ) → IsSound R.query trees → IsBuilding (fields_due c R.query t trees)
   roots_building no_collected t sound = tt
   roots_building (collected k h under others) t sound =
-      then_building (λ x. mapped (field k x) (fields_due c R.query t others)) (known_due c R.query t h (is_empty under) >>= asked_field c R.query t h (below_of t under))
+      then_building (λ x. mapped (field k x) (fields_due c R.query t others)) (known_due c R.query t h (is_empty under) >>= asked_field R.query t h under)
       (one_root R.query t h under (inner_building under) sound.0 sound.1 (field_like R.query type.Query h.name sound.0.def (root_at tables m role schemed) sound.0.known)
       (root_at tables m role schemed))
       (λ x e. mapped_building (field k x) (fields_due c R.query t others) (roots_building others t sound.2))

@@ -1,7 +1,7 @@
 -- What root fields have, with all that stands below them.
 use Rattle.std.proofs.Common.{◌≡◌, ◌∙◌, refl, sym, ap, subst, ℕ, suc, ◌≤◌, arith, List, ◌∷◌, length, Bool, true, false, Some, None, Ok, codes}
 use Rattle.std.proofs.lemmas.Bool.{and_from, or_left, or_right}
-use Rattle.hq_base.specs.Due.{mapped, and_then, ◌>>=◌}
+use Rattle.hq_base.specs.Due.{mapped, ◌>>=◌}
 use Rattle.hq_base.specs.Lists.{Each}
 use Rattle.hq_base.specs.declared.value.Val.{Val}
 use Rattle.hq_model.specs.Fits.{fits}
@@ -42,8 +42,7 @@ use Rattle.hq_request_arguments.specs.Due.{by_origin}
 use Rattle.hq_request_arguments.specs.FieldArguments.{FieldArguments}
 use Rattle.hq_request_arguments.specs.FieldArguments as given
 use Rattle.hq_request_arguments.specs.Keys.{key_due}
-use Rattle.hq_request_build.specs.Asked.{with_below, field_of, fields_due}
-use Rattle.hq_request_build.specs.Heads.{leaf, key_head, introspect_head, head_by}
+use Rattle.hq_request_build.specs.Asked.{field_by, fields_due}
 use Rattle.hq_request_build.specs.KnownField.{Due, is_complete, KnownField, known_due, leads_to, key_of, type_name_due, type_name_of}
 use Rattle.hq_request_build.specs.Looks.{looks_due}
 use Rattle.hq_laws_request.specs.Formed.ObjectsNest.{objects_nest}
@@ -53,7 +52,7 @@ use Rattle.hq_laws_request.proofs.Formed.Looking.{below_accepted, looks_fit}
 use Rattle.hq_laws_request.proofs.Formed.Naming.{key_fits}
 use Rattle.hq_laws_request.proofs.Formed.Permitted.{aggregates_allowed}
 use Rattle.hq_laws_request.proofs.Formed.Places.{At, Schemed, type_seen, Found, own, type_name, of_schema, of_type, field_found, type_named, root_at}
-use Rattle.hq_laws_request.proofs.Formed.Rows.{below_of, RowFacts, PartFacts, Inner, list_is, aggregate_is, all_fit}
+use Rattle.hq_laws_request.proofs.Formed.Rows.{below_known, RowFacts, PartFacts, Inner, list_is, aggregate_is, all_fit}
 use Rattle.hq_laws_request.proofs.Formed.BuildingSteps.{mapped_ok, then_ok, equal_texts}
 
 module _ (tables : List Table) (m : MetaTree) (metadata_fits : fits tables m ≡ true) (role : Role) (schemed : Schemed tables m role)
@@ -104,12 +103,12 @@ module _ (tables : List Table) (m : MetaTree) (metadata_fits : fits tables m ≡
     inner = all_fit tables m metadata_fits role schemed vars low below kept
 
     abbrev Asked : FieldOrigin → FieldTree → Type 0
-    Asked o f = and_then (with_below h (below_of c root below k)) (head_by c R.query root h k o) ≡ Ok f
+    Asked o f = field_by c R.query root h k (below_known c root below k) o ≡ Ok f
 
     rows_root : (u : ℕ) → a.seen u ≡ true → At types (leads_to k) (type.Rows u) → Each (ArgFits types (list_target (Some u))) k.0.args → by_origin c root k.0.args h.args (origin.Rows u) ≡ Ok k.1
         → (f : FieldTree) → Asked (origin.Rows u) f → OneRoot below f
     rows_root u seen at args due f e =
-        let l = list_is tables m metadata_fits role schemed vars low h below shallow apart inner k root (from_table u) u at args due f e in
+        let l = list_is tables m metadata_fits role schemed vars low h below shallow apart inner k (from_table u) u at args due f e in
         subst (OneRoot below) l.is (record {
           here = record { uses = (seen, l.fit.uses); stand = l.fit.stand; fit = l.fit.fit; keys = l.apart; named = tt; looks = tt };
           under = l.all.every;
@@ -120,7 +119,7 @@ module _ (tables : List Table) (m : MetaTree) (metadata_fits : fits tables m ≡
         → Each (ArgFits types (list_target (Some u))) k.0.args → by_origin c root k.0.args h.args (origin.RowsAggregate u) ≡ Ok k.1
         → (f : FieldTree) → Asked (origin.RowsAggregate u) f → OneRoot below f
     aggregate_root u granted at args due f e =
-        let l = aggregate_is tables m metadata_fits role schemed vars low h below shallow apart inner k root (from_table u) u at args due f e in
+        let l = aggregate_is tables m metadata_fits role schemed vars low h below shallow apart inner k (from_table u) u at args due f e in
         let seen : a.seen u ≡ true = type_seen tables m role schemed (leads_to k) (type.Aggregate u) at in
         subst (OneRoot below) l.is (record {
           here = record { uses = (seen, aggregates_allowed tables m metadata_fits role u granted, l.fit.uses); stand = l.fit.stand; fit = l.fit.fit; keys = l.apart; named = tt; looks = tt };
@@ -134,7 +133,7 @@ module _ (tables : List Table) (m : MetaTree) (metadata_fits : fits tables m ≡
         let one = mapped_ok given.key (key_due c k.0.args h.args u) k.1 due in
         let vs : List Val = one.0 in
         let e' : mapped (by_key u vs) (fields_due c (leads_to k) u below) ≡ Ok f =
-        subst (λ (x : FieldArguments). and_then (with_below h (below_of c root below k)) (mapped (key_head u) (key_of h x)) ≡ Ok f) (sym one.2) e in
+        subst (λ (x : FieldArguments). (key_of h x >>= λ y. mapped (by_key u y) (fields_due c (leads_to k) u below)) ≡ Ok f) (sym one.2) e in
         let two = mapped_ok (by_key u vs) (fields_due c (leads_to k) u below) f e' in
         let all = inner.rows (leads_to k) u at two.0 two.1 in
         let keyed = key_fits tables m metadata_fits role schemed vars u k.0.args h.args args (table s u).key vs one.1 in
@@ -168,13 +167,10 @@ module _ (tables : List Table) (m : MetaTree) (metadata_fits : fits tables m ≡
 
     name_root : (f : FieldTree) → Asked origin.TypeName f → OneRoot below f
     name_root f e =
-        let one = then_ok (with_below h (below_of c root below k)) (mapped (λ name. leaf (typename name)) (type_name_due R R.query h)) f e in
-        let two = mapped_ok (λ name. leaf (typename name)) (type_name_due R R.query h) one.0 one.1 in
-        let is = type_named tables m role schemed R.query type.Query h two.0 (root_at tables m role schemed) two.1 in
-        let e' : with_below h (below_of c root below k) (leaf (typename two.0)) ≡ Ok f = subst (λ x. with_below h (below_of c root below k) x ≡ Ok f) (sym two.2) one.2 in
-        let same : typename two.0 ≡ f = cc in
-        subst (OneRoot below) same (record {
-          here = record { uses = tt; stand = tt; fit = tt; keys = tt; named = equal_texts two.0 (codes "query_root") is; looks = tt };
+        let one = mapped_ok typename (type_name_due R R.query h) f e in
+        let is = type_named tables m role schemed R.query type.Query h one.0 (root_at tables m role schemed) one.1 in
+        subst (OneRoot below) one.2 (record {
+          here = record { uses = tt; stand = tt; fit = tt; keys = tt; named = equal_texts one.0 (codes "query_root") is; looks = tt };
           under = tt;
           levels = omega arith;
         })
@@ -202,12 +198,9 @@ module _ (tables : List Table) (m : MetaTree) (metadata_fits : fits tables m ≡
 
     type_root : k.0 ≡ type_field → h.name ≡ codes "__type" → (f : FieldTree) → Asked origin.«Type» f → OneRoot below f
     type_root is name f e =
-        let one = then_ok (with_below h (below_of c root below k)) (mapped (λ n. introspect_head (Some n)) (type_name_of h k.1)) f e in
-        let two = mapped_ok (λ n. introspect_head (Some n)) (type_name_of h k.1) one.0 one.1 in
-        let n : List ℕ = two.0 in
-        let e' : mapped (λ (fs : IntrospectionTrees). introspect (look h.name (Some n) false fs)) (looks_due c (leads_to k) root below) ≡ Ok f =
-        subst (λ x. with_below h (below_of c root below k) x ≡ Ok f) (sym two.2) one.2 in
-        let three = mapped_ok (λ (fs : IntrospectionTrees). introspect (look h.name (Some n) false fs)) (looks_due c (leads_to k) root below) f e' in
+        let one = then_ok (λ (n : List ℕ). mapped (λ (fs : IntrospectionTrees). introspect (look h.name (Some n) false fs)) (looks_due c (leads_to k) root below)) (type_name_of h k.1) f e in
+        let n : List ℕ = one.0 in
+        let three = mapped_ok (λ (fs : IntrospectionTrees). introspect (look h.name (Some n) false fs)) (looks_due c (leads_to k) root below) f one.2 in
         let leads : base k.0.ty ≡ fixed_place fixed.«Type» = ap (λ (x : schema.FieldTree). base x.ty) is in
         let acc =
         below_accepted tables m role vars fixed.«Type» (Some type_type) refl refl root below
@@ -235,7 +228,7 @@ module _ (tables : List Table) (m : MetaTree) (metadata_fits : fits tables m ≡
   pub roots_fit : (trees : CollectedTrees) → AreKept trees → (fs : FieldTrees) → fields_due c R.query root trees ≡ Ok fs → AllRoots trees fs
   roots_fit no_collected kept fs e = let same : no_field ≡ fs = cc in subst (AllRoots no_collected) same (record { every = tt; keys = refl; levels = omega arith })
   roots_fit (collected key h below others) kept fs e =
-      let next : KnownField → Due FieldTree = field_of c R.query root h (below_of c root below) in
+      let next : KnownField → Due FieldTree = λ k. field_by c R.query root h k (below_known c root below k) k.0.origin in
       let due = known_due c R.query root h (is_empty below) >>= next in
       let one = then_ok (λ f. mapped (field key f) (fields_due c R.query root others)) due fs e in
       let two = mapped_ok (field key one.0) (fields_due c R.query root others) fs one.2 in

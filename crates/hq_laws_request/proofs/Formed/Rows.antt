@@ -1,6 +1,6 @@
 -- What the fields at rows of a table have, with all that stands below them.
 use Rattle.std.proofs.Common.{◌≡◌, ◌∙◌, refl, sym, ap, subst, ℕ, suc, ◌≤◌, arith, List, ◌∷◌, ◌++◌, Bool, true, false, not, Option, Some, None, Ok, codes}
-use Rattle.hq_base.specs.Due.{mapped, and_then, ◌>>=◌}
+use Rattle.hq_base.specs.Due.{mapped, ◌>>=◌}
 use Rattle.hq_base.specs.Lists.{Each}
 use Rattle.hq_model.specs.Fits.{fits}
 use Rattle.hq_model.specs.Meta.{MetaTree}
@@ -35,11 +35,9 @@ use Rattle.hq_request_tree.specs.Uses.{UsesHere, UsesPart}
 use Rattle.hq_request_arguments.specs.Context.{Context}
 use Rattle.hq_request_arguments.specs.Due.{list_due, by_origin}
 use Rattle.hq_request_arguments.specs.FieldArguments.{FieldArguments, rows}
-use Rattle.hq_request_build.specs.Asked.{with_below, field_of, part_by, fields_due, parts_due}
+use Rattle.hq_request_build.specs.Asked.{below_of, field_by, part_by, fields_due, parts_due}
 use Rattle.hq_request_build.specs.Asked as due
-use Rattle.hq_request_build.specs.Heads.{leaf, list_head, aggregate_head, head_by}
 use Rattle.hq_request_build.specs.KnownField.{Due, KnownField, known_due, leads_to, rows_of, type_name_due}
-use Rattle.hq_request_build.specs.Looks.{looks_due}
 use Rattle.hq_request_build.specs.Summaries.{summaries_due}
 use Rattle.hq_laws_request.specs.Formed.ObjectsNest.{objects_nest}
 use Rattle.hq_laws_request.proofs.Formed.Kept.{AreKept}
@@ -51,12 +49,8 @@ use Rattle.hq_laws_request.proofs.Formed.BuildingSteps.{mapped_ok, then_ok, equa
 use Rattle.hq_laws_request.proofs.Formed.Summing.{summaries_fit}
 
 -- what stands below a field
-abbrev pub below_of : Context → (t : ℕ) → CollectedTrees → KnownField → due.Below
-below_of c t below k = record {
-  fields = λ u. fields_due c (leads_to k) u below;
-  parts = λ u. parts_due c (leads_to k) u below;
-  looks = looks_due c (leads_to k) t below;
-}
+abbrev pub below_known : Context → (t : ℕ) → CollectedTrees → KnownField → due.Below
+below_known c t below k = below_of c (leads_to k) t below
 
 module _ (tables : List Table) (m : MetaTree) (metadata_fits : fits tables m ≡ true) (role : Role) (schemed : Schemed tables m role)
     (vars : List VarTree) (low : Each (λ v. objects_nest v.value ≤ 127) vars) where
@@ -146,30 +140,30 @@ module _ (tables : List Table) (m : MetaTree) (metadata_fits : fits tables m ≡
         let one = mapped_ok rows (list_due c k.0.args h.args u) k.1 due in
         (one.0, one.2, list_fits tables m metadata_fits role schemed vars low u k.0.args h.args args shallow one.0 one.1)
 
-    pub list_is : (t : ℕ) (o : Origin) (u : ℕ) → At types (leads_to k) (type.Rows u) → Each (ArgFits types (list_target (Some u))) k.0.args → mapped rows (list_due c k.0.args h.args u) ≡ Ok k.1
-        → (f : FieldTree) → and_then (with_below h (below_of c t below k)) (mapped (list_head o u) (rows_of h k.1)) ≡ Ok f → IsList below o u f
-    list_is t o u at args due f e =
+    pub list_is : (o : Origin) (u : ℕ) → At types (leads_to k) (type.Rows u) → Each (ArgFits types (list_target (Some u))) k.0.args → mapped rows (list_due c k.0.args h.args u) ≡ Ok k.1
+        → (f : FieldTree) → (rows_of h k.1 >>= λ x. mapped (list o x) (fields_due c (leads_to k) u below)) ≡ Ok f → IsList below o u f
+    list_is o u at args due f e =
         let r = rows_are u args due in
         let e' : mapped (list o r.0) (fields_due c (leads_to k) u below) ≡ Ok f =
-        subst (λ (x : FieldArguments). and_then (with_below h (below_of c t below k)) (mapped (list_head o u) (rows_of h x)) ≡ Ok f) (sym r.1) e in
+        subst (λ (x : FieldArguments). (rows_of h x >>= λ y. mapped (list o y) (fields_due c (leads_to k) u below)) ≡ Ok f) (sym r.1) e in
         let one = mapped_ok (list o r.0) (fields_due c (leads_to k) u below) f e' in
         let all = inner.rows (leads_to k) u at one.0 one.1 in
         record { arguments = r.0; fields = one.0; is = one.2; fit = r.2; all = all; apart = ap are_keys all.keys ∙ apart }
 
-    pub aggregate_is : (t : ℕ) (o : Origin) (u : ℕ) → At types (leads_to k) (type.Aggregate u)
+    pub aggregate_is : (o : Origin) (u : ℕ) → At types (leads_to k) (type.Aggregate u)
         → Each (ArgFits types (list_target (Some u))) k.0.args → mapped rows (list_due c k.0.args h.args u) ≡ Ok k.1
-        → (f : FieldTree) → and_then (with_below h (below_of c t below k)) (mapped (aggregate_head o u) (rows_of h k.1)) ≡ Ok f → IsAggregate below o u f
-    aggregate_is t o u at args due f e =
+        → (f : FieldTree) → (rows_of h k.1 >>= λ x. mapped (aggregate o x) (parts_due c (leads_to k) u below)) ≡ Ok f → IsAggregate below o u f
+    aggregate_is o u at args due f e =
         let r = rows_are u args due in
         let e' : mapped (aggregate o r.0) (parts_due c (leads_to k) u below) ≡ Ok f =
-        subst (λ (x : FieldArguments). and_then (with_below h (below_of c t below k)) (mapped (aggregate_head o u) (rows_of h x)) ≡ Ok f) (sym r.1) e in
+        subst (λ (x : FieldArguments). (rows_of h x >>= λ y. mapped (aggregate o y) (parts_due c (leads_to k) u below)) ≡ Ok f) (sym r.1) e in
         let one = mapped_ok (aggregate o r.0) (parts_due c (leads_to k) u below) f e' in
         let all = inner.parts (leads_to k) u at one.0 one.1 in
         record { arguments = r.0; parts = one.0; is = one.2; fit = r.2; all = all; apart = ap are_keys all.keys ∙ apart }
 
     module _ (place t : ℕ) where
       abbrev Asked : FieldOrigin → FieldTree → Type 0
-      Asked o f = and_then (with_below h (below_of c t below k)) (head_by c place t h k o) ≡ Ok f
+      Asked o f = field_by c place t h k (below_known c t below k) o ≡ Ok f
 
       object_row : (r : ℕ) (o : Option Rel) → a.rel t r ≡ o → Reaches types k.0.ty (behind_one o type.Rows) → (f : FieldTree)
           → mapped (object r) (fields_due c (leads_to k) (rel s t r).remote below) ≡ Ok f → OneRow below t f
@@ -210,7 +204,7 @@ module _ (tables : List Table) (m : MetaTree) (metadata_fits : fits tables m ≡
               let there : q.remote ≡ (rel s t r).remote = sym (ap (λ (x : Rel). x.remote) found.0) in
               let seen = type_seen tables m role schemed (leads_to k) (type.Rows q.remote) at in
               let l =
-              list_is t (along r) (rel s t r).remote (subst (λ u. At types (leads_to k) (type.Rows u)) there at)
+              list_is (along r) (rel s t r).remote (subst (λ u. At types (leads_to k) (type.Rows u)) there at)
               (subst (λ u. Each (ArgFits types (list_target (Some u))) k.0.args) there args) due f e in
               subst (OneRow below t) l.is (record {
                 here = record {
@@ -237,7 +231,7 @@ module _ (tables : List Table) (m : MetaTree) (metadata_fits : fits tables m ≡
               let there : q.remote ≡ (rel s t r).remote = sym (ap (λ (x : Rel). x.remote) found.0) in
               let seen = type_seen tables m role schemed (leads_to k) (type.Aggregate q.remote) at in
               let l =
-              aggregate_is t (along r) (rel s t r).remote (subst (λ u. At types (leads_to k) (type.Aggregate u)) there at)
+              aggregate_is (along r) (rel s t r).remote (subst (λ u. At types (leads_to k) (type.Aggregate u)) there at)
               (subst (λ u. Each (ArgFits types (list_target (Some u))) k.0.args) there args) due f e in
               subst (OneRow below t) l.is (record {
                 here = record {
@@ -275,13 +269,10 @@ module _ (tables : List Table) (m : MetaTree) (metadata_fits : fits tables m ≡
 
       name_row : At types place (type.Rows t) → (f : FieldTree) → Asked origin.TypeName f → OneRow below t f
       name_row at f e =
-          let one = then_ok (with_below h (below_of c t below k)) (mapped (λ name. leaf (typename name)) (type_name_due R place h)) f e in
-          let two = mapped_ok (λ name. leaf (typename name)) (type_name_due R place h) one.0 one.1 in
-          let is = type_named tables m role schemed place (type.Rows t) h two.0 at two.1 in
-          let e' : with_below h (below_of c t below k) (leaf (typename two.0)) ≡ Ok f = subst (λ x. with_below h (below_of c t below k) x ≡ Ok f) (sym two.2) one.2 in
-          let same : typename two.0 ≡ f = cc in
-          subst (OneRow below t) same (record {
-            here = record { uses = tt; stand = tt; fit = tt; keys = tt; named = equal_texts two.0 (row_type_name m t) is };
+          let one = mapped_ok typename (type_name_due R place h) f e in
+          let is = type_named tables m role schemed place (type.Rows t) h one.0 at one.1 in
+          subst (OneRow below t) one.2 (record {
+            here = record { uses = tt; stand = tt; fit = tt; keys = tt; named = equal_texts one.0 (row_type_name m t) is };
             under = tt;
             levels = omega arith;
           })
@@ -340,7 +331,7 @@ module _ (tables : List Table) (m : MetaTree) (metadata_fits : fits tables m ≡
       → Inner others → (place t : ℕ) → At types place (type.Rows t) → (fs : FieldTrees)
       → fields_due c place t (collected key h below others) ≡ Ok fs → AllRows (collected key h below others) t fs
   rows_one key h below others kept inner later place t at fs e =
-      let next : KnownField → Due FieldTree = field_of c place t h (below_of c t below) in
+      let next : KnownField → Due FieldTree = λ k. field_by c place t h k (below_known c t below k) k.0.origin in
       let due = known_due c place t h (is_empty below) >>= next in
       let one = then_ok (λ f. mapped (field key f) (fields_due c place t others)) due fs e in
       let two = mapped_ok (field key one.0) (fields_due c place t others) fs one.2 in

@@ -1,17 +1,19 @@
-use Rattle.std.proofs.Common.{◌∙◌, refl, ap, map, [], ◌∷◌, ◌++◌, List, Ok}
+use Rattle.std.proofs.Common.{◌≡◌, ◌∙◌, refl, sym, ap, subst, rules, map, [], ◌∷◌, ◌++◌, List, Ok}
 use Rattle.std.proofs.lemmas.List.{map-append, at_drop_all}
-use Rattle.hq_base.specs.Due.{mapped}
+use Rattle.hq_base.specs.Due.{Gives, and_then, mapped}
 use Rattle.hq_request_arguments.specs.Context.{Context, context_view}
 use Rattle.hq_base.proofs.Refusals.{passed_up}
 use Rattle.hq_request_coerce.specs.declared.refusal.CoerceRefusal.{CoerceRefusal}
 use Rattle.hq_request_coerce.specs.declared.refusal.CoerceRefusal.TheVariants.{Memory}
-use Rattle.hq_request_collect.specs.TreeSeen.{collected_view, trees_of}
+use Rattle.hq_request_collect.specs.TreeSeen.{collected_view, parts_seen, trees_of}
 use Rattle.hq_request_collect.specs.declared.tree.CollectedField.{CollectedField}
 use Rattle.hq_request_build.proofs.Walks.{front, walk_more, walk_refused}
 use Rattle.hq_request_build.proofs.Ends.{fields_end, parts_end}
-use Rattle.hq_request_build.specs.Asked.{fields_due, parts_due}
-use Rattle.hq_request_build.specs.Parts.{field_due, part_due}
-use Rattle.hq_request_tree.specs.Fields.{field, part, fields_of, parts_of, field_view, part_view, keyed_field_view, keyed_part_view}
+use Rattle.hq_request_build.specs.Asked.{fields_due, field_due, parts_due, part_due}
+use Rattle.hq_request_build.specs.KnownField.{leads_to, rows_of}
+use Rattle.hq_request_build.specs.Seen.{known_view}
+use Rattle.hq_request_tree.specs.Arguments.{arguments_view}
+use Rattle.hq_request_tree.specs.Fields.{origin_of, list, aggregate, field, part, fields_of, parts_of, field_view, part_view, keyed_field_view, keyed_part_view}
 use Rattle.hq_request_build.proofs.ask.+asking.Goals as goal
 
 pub ask_fields-returns : goal.ask_fields-returns
@@ -71,3 +73,27 @@ ask_parts-loop-field-preserved t c =
     (ap (map keyed_part_view) c.in_ok-push.ensures.items ∙ map-append keyed_part_view _ _
     ∙ ap (λ p. map keyed_part_view c.loop-field.parts.items ++ p ∷ [])
     (c.keyed_part.ensures ∙ ap (λ k. (k, part_view c.in_ok-part.part)) (c.in_ok-key.ensures ∙ c.key.ensures)))
+
+pub ask_list-returns : goal.ask_list-returns
+ask_list-returns t c =
+    let x = context_view c.args.context.now in
+    let f = parts_seen c.args.field.now in
+    let k = known_view c.args.known in
+    let to : c.base-to.result ≡ leads_to k = search rules in
+    let rows : rows_of f.head k.1 ≡ Ok (arguments_view c.in_ok-args.args.value) = search rules in
+    subst (λ due. Gives field_view Memory due c.ask_rows.result)
+    (ap (λ p. mapped (list (origin_of c.args.table c.args.rel) (arguments_view c.in_ok-args.args.value)) (fields_due x p c.args.table f.below)) to
+    ∙ sym (ap (and_then (λ a. mapped (list (origin_of c.args.table c.args.rel) a) (fields_due x (leads_to k) c.args.table f.below))) rows))
+    c.ask_rows.ensures
+
+pub ask_aggregate-returns : goal.ask_aggregate-returns
+ask_aggregate-returns t c =
+    let x = context_view c.args.context.now in
+    let f = parts_seen c.args.field.now in
+    let k = known_view c.args.known in
+    let to : c.base-to.result ≡ leads_to k = search rules in
+    let rows : rows_of f.head k.1 ≡ Ok (arguments_view c.in_ok-args.args.value) = search rules in
+    subst (λ due. Gives field_view Memory due c.ask_totals.result)
+    (ap (λ p. mapped (aggregate (origin_of c.args.table c.args.rel) (arguments_view c.in_ok-args.args.value)) (parts_due x p c.args.table f.below)) to
+    ∙ sym (ap (and_then (λ a. mapped (aggregate (origin_of c.args.table c.args.rel) a) (parts_due x (leads_to k) c.args.table f.below))) rows))
+    c.ask_totals.ensures

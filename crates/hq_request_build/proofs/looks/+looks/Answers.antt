@@ -9,8 +9,7 @@ use Rattle.hq_request_collect.specs.TreeSeen.{collected_view, trees_of}
 use Rattle.hq_request_collect.specs.declared.tree.CollectedField.{CollectedField}
 use Rattle.hq_request_build.proofs.Walks.{front, walk_more, walk_refused}
 use Rattle.hq_request_build.proofs.Ends.{looks_end}
-use Rattle.hq_request_build.specs.Looks.{looks_due}
-use Rattle.hq_request_build.specs.Parts.{look_due}
+use Rattle.hq_request_build.specs.Looks.{look_due, looks_due}
 use Rattle.hq_request_tree.specs.Introspection.{looks, looks_of, introspection_view, keyed_introspection_view}
 use Rattle.hq_request_build.proofs.looks.+looks.Goals as goal
 

@@ -9,8 +9,7 @@ use Rattle.hq_request_collect.specs.TreeSeen.{collected_view, trees_of}
 use Rattle.hq_request_collect.specs.declared.tree.CollectedField.{CollectedField}
 use Rattle.hq_request_build.proofs.Walks.{front, walk_more, walk_refused}
 use Rattle.hq_request_build.proofs.Ends.{taken_pair, taken_end}
-use Rattle.hq_request_build.specs.Parts.{one_taken_due}
-use Rattle.hq_request_build.specs.Summaries.{with_taken, taken_due}
+use Rattle.hq_request_build.specs.Summaries.{one_taken_due, with_taken, taken_due}
 use Rattle.hq_request_build.proofs.summaries.ask_all_taken.Goals as goal
 
 pub returns : goal.returns

@@ -9,8 +9,7 @@ use Rattle.hq_request_collect.specs.TreeSeen.{collected_view, trees_of}
 use Rattle.hq_request_collect.specs.declared.tree.CollectedField.{CollectedField}
 use Rattle.hq_request_build.proofs.Walks.{front, walk_more, walk_refused}
 use Rattle.hq_request_build.proofs.Ends.{summary_pair, summaries_end}
-use Rattle.hq_request_build.specs.Parts.{one_summary_due}
-use Rattle.hq_request_build.specs.Summaries.{with_summary, summaries_due}
+use Rattle.hq_request_build.specs.Summaries.{one_summary_due, with_summary, summaries_due}
 use Rattle.hq_request_build.proofs.summaries.ask_summaries.Goals as goal
 
 pub returns : goal.returns
