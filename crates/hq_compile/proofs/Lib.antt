@@ -1,4 +1,4 @@
-mod GrantedRights
+mod GrantedAlike
 mod Joins
 mod Requests
 mod RootFields

@@ -11,7 +11,7 @@ ghost use Rattle.hq_translation.specs.Fields.{fields_numbers, field_numbers, par
 ghost use Rattle.hq_translation.specs.Looks.{own_look};
 ghost use Rattle.hq_translation.specs.Masks.{value_output};
 ghost use Rattle.hq_translation.specs.Names.{join_alias};
-ghost use Rattle.hq_compile_tables.specs.Contexts.{context_schema, context_rights};
+ghost use Rattle.hq_compile_tables.specs.Contexts.{context_schema, context_granted};
 ghost use Rattle.hq_compile_tables.specs.Selects.{first_row};
 ghost use Rattle.hq_compile_tables.specs.Shown.{look_in};
 ghost use Rattle.hq_compile_lists.specs.Starts.{start_origin, start_table};
@@ -95,10 +95,10 @@ fn push_fields(
 ) -> Result<(), Memory>
     ensures pairs { let s = context_schema context.now in let look = look_in places.now (table s t).columns p in
         OnOk result (map pair_view row.new.pairs.items ≡ map pair_view row.old.pairs.items
-        ++ fields_values (fields_view fields.now.items) s (context_rights context.now) look t next.old) }
-    ensures joins { let s = context_schema context.now in let g = context_rights context.now in
+        ++ fields_values (fields_view fields.now.items) s (context_granted context.now) look t next.old) }
+    ensures joins { let s = context_schema context.now in let g = context_granted context.now in
         OnOk result (map join_view row.new.joins.items ≡ map join_view row.old.joins.items ++ fields_joins (fields_view fields.now.items) s g t p next.old) }
-    ensures numbers { let s = context_schema context.now in let g = context_rights context.now in
+    ensures numbers { let s = context_schema context.now in let g = context_granted context.now in
         OnOk result (next.new ≡ next.old + fields_numbers (fields_view fields.now.items) s g t) }
 {
     for keyed in fields {
@@ -120,9 +120,9 @@ fn push_field(
 ) -> Result<(), Memory>
     ensures pairs { let columns = (table (context_schema context.now) t).columns in let look = look_in places.now columns p in let f = keyed_field_view keyed.now in
         OnOk result (map pair_view row.new.pairs.items ≡ map pair_view row.old.pairs.items ++ record { name = f.0; value = field_value f.1 columns look next.old } ∷ []) }
-    ensures joins { let s = context_schema context.now in let g = context_rights context.now in
+    ensures joins { let s = context_schema context.now in let g = context_granted context.now in
         OnOk result (map join_view row.new.joins.items ≡ map join_view row.old.joins.items ++ field_joins (keyed_field_view keyed.now).1 s g t p next.old) }
-    ensures numbers { OnOk result (next.new ≡ next.old + field_numbers (keyed_field_view keyed.now).1 (context_schema context.now) (context_rights context.now) t) }
+    ensures numbers { OnOk result (next.new ≡ next.old + field_numbers (keyed_field_view keyed.now).1 (context_schema context.now) (context_granted context.now) t) }
 {
     let value = field_value(alloc, context, t, p, places, *next, &keyed.field)?;
     push_pair(alloc, &mut row.pairs, &keyed.key, value)?;
@@ -140,9 +140,9 @@ fn push_joins(
     next: &mut u64,
     joins: &mut JoinList,
 ) -> Result<(), Memory>
-    ensures joins { let s = context_schema context.now in let g = context_rights context.now in
+    ensures joins { let s = context_schema context.now in let g = context_granted context.now in
         OnOk result (map join_view joins.new.items ≡ map join_view joins.old.items ++ field_joins (field_view field.now) s g t p next.old) }
-    ensures numbers { OnOk result (next.new ≡ next.old + field_numbers (field_view field.now) (context_schema context.now) (context_rights context.now) t) }
+    ensures numbers { OnOk result (next.new ≡ next.old + field_numbers (field_view field.now) (context_schema context.now) (context_granted context.now) t) }
 {
     match field {
         AskField::Column { .. } | AskField::Typename { .. } => Ok(()),
@@ -204,9 +204,9 @@ fn object_join(
     fields: &AskFields,
     next: &mut u64,
 ) -> Result<Join, Memory>
-    ensures join { let s = context_schema context.now in let g = context_rights context.now in
+    ensures join { let s = context_schema context.now in let g = context_granted context.now in
         IfOk result (λ join. join_view join ∷ [] ≡ field_joins (object r (fields_view fields.now.items)) s g t p next.old) }
-    ensures numbers { let s = context_schema context.now in let g = context_rights context.now in
+    ensures numbers { let s = context_schema context.now in let g = context_granted context.now in
         OnOk result (next.new ≡ next.old + field_numbers (object r (fields_view fields.now.items)) s g t) }
 {
     let used = fields_used(alloc, fields)?;
@@ -224,9 +224,9 @@ fn key_join(
     fields: &AskFields,
     next: &mut u64,
 ) -> Result<Join, Memory>
-    ensures join { let s = context_schema context.now in let g = context_rights context.now in
+    ensures join { let s = context_schema context.now in let g = context_granted context.now in
         IfOk result (λ join. join_view join ∷ [] ≡ field_joins (by_key table key.now (fields_view fields.now.items)) s g 0 0 next.old) }
-    ensures numbers { let s = context_schema context.now in let g = context_rights context.now in
+    ensures numbers { let s = context_schema context.now in let g = context_granted context.now in
         OnOk result (next.new ≡ next.old + field_numbers (by_key table key.now (fields_view fields.now.items)) s g 0) }
 {
     let used = key_used(alloc, context, table, fields)?;
@@ -243,13 +243,13 @@ fn first_join(
     fields: &AskFields,
     next: &mut u64,
 ) -> Result<Join, Memory>
-    ensures join { let s = context_schema context.now in let g = context_rights context.now in
+    ensures join { let s = context_schema context.now in let g = context_granted context.now in
         let fs = fields_view fields.now.items in let u = first.table in let n = first.number in
         let value = tree.object (tree.pairs_of (fields_values fs s g (look_in first.masks.places (table s u).columns n) u next.old)) in
         let joins = map join_view first.masks.joins.items ++ fields_joins fs s g u n next.old in
         let select = first_row s u n (value_output value) joins (where_of (map pred_view first.members.items)) in
         IfOk result (λ join. join_view join ≡ record { select = select; alias = join_alias n }) }
-    ensures numbers { let s = context_schema context.now in let g = context_rights context.now in
+    ensures numbers { let s = context_schema context.now in let g = context_granted context.now in
         OnOk result (next.new ≡ next.old + fields_numbers (fields_view fields.now.items) s g first.table) }
 {
     let FirstRow {
@@ -281,9 +281,9 @@ fn list_join(
     next: &mut u64,
 ) -> Result<Join, Memory>
     ensures join { let f = list (start_origin start.now) (arguments_view start.now.args.now) (fields_view fields.now.items) in
-        IfOk result (λ join. join_view join ∷ [] ≡ field_joins f (context_schema context.now) (context_rights context.now) start.now.row_table start.now.row_number next.old) }
+        IfOk result (λ join. join_view join ∷ [] ≡ field_joins f (context_schema context.now) (context_granted context.now) start.now.row_table start.now.row_number next.old) }
     ensures numbers { let f = list (start_origin start.now) (arguments_view start.now.args.now) (fields_view fields.now.items) in
-        OnOk result (next.new ≡ next.old + field_numbers f (context_schema context.now) (context_rights context.now) start.now.row_table) }
+        OnOk result (next.new ≡ next.old + field_numbers f (context_schema context.now) (context_granted context.now) start.now.row_table) }
 {
     let n = take_number(next)?;
     let table = list_table(context, start);
@@ -307,9 +307,9 @@ fn parts_join(
     next: &mut u64,
 ) -> Result<Join, Memory>
     ensures join { let f = aggregate (start_origin start.now) (arguments_view start.now.args.now) (parts_view parts.now.items) in
-        IfOk result (λ join. join_view join ∷ [] ≡ field_joins f (context_schema context.now) (context_rights context.now) start.now.row_table start.now.row_number next.old) }
+        IfOk result (λ join. join_view join ∷ [] ≡ field_joins f (context_schema context.now) (context_granted context.now) start.now.row_table start.now.row_number next.old) }
     ensures numbers { let f = aggregate (start_origin start.now) (arguments_view start.now.args.now) (parts_view parts.now.items) in
-        OnOk result (next.new ≡ next.old + field_numbers f (context_schema context.now) (context_rights context.now) start.now.row_table) }
+        OnOk result (next.new ≡ next.old + field_numbers f (context_schema context.now) (context_granted context.now) start.now.row_table) }
 {
     let n = take_number(next)?;
     let mut row = empty_row(alloc);
@@ -328,12 +328,12 @@ fn push_parts(
     next: &mut u64,
     row: &mut Row,
 ) -> Result<(), Memory>
-    ensures pairs { let s = context_schema context.now in let g = context_rights context.now in let a = arguments_view start.now.args.now in
+    ensures pairs { let s = context_schema context.now in let g = context_granted context.now in let a = arguments_view start.now.args.now in
         OnOk result (map pair_view row.new.pairs.items ≡ map pair_view row.old.pairs.items ++ parts_values (parts_view parts.now.items) s g (start_table s start.now) a next.old) }
-    ensures joins { let s = context_schema context.now in let g = context_rights context.now in let l = start.now in
+    ensures joins { let s = context_schema context.now in let g = context_granted context.now in let l = start.now in
         OnOk result (map join_view row.new.joins.items ≡ map join_view row.old.joins.items
         ++ parts_joins (parts_view parts.now.items) s g (start_origin l) l.row_table l.row_number (arguments_view l.args.now) next.old) }
-    ensures numbers { let s = context_schema context.now in let g = context_rights context.now in let a = arguments_view start.now.args.now in
+    ensures numbers { let s = context_schema context.now in let g = context_granted context.now in let a = arguments_view start.now.args.now in
         OnOk result (next.new ≡ next.old + parts_numbers (parts_view parts.now.items) s g (start_table s start.now) a) }
 {
     for keyed in parts {
@@ -353,10 +353,10 @@ fn push_part(
 ) -> Result<(), Memory>
     ensures pairs { let f = keyed_part_view keyed.now in
         OnOk result (map pair_view row.new.pairs.items ≡ map pair_view row.old.pairs.items ++ record { name = f.0; value = part_value f.1 next.old } ∷ []) }
-    ensures joins { let s = context_schema context.now in let g = context_rights context.now in let l = start.now in
+    ensures joins { let s = context_schema context.now in let g = context_granted context.now in let l = start.now in
         OnOk result (map join_view row.new.joins.items ≡ map join_view row.old.joins.items
         ++ part_joins (keyed_part_view keyed.now).1 s g (start_origin l) l.row_table l.row_number (arguments_view l.args.now) next.old) }
-    ensures numbers { let s = context_schema context.now in let g = context_rights context.now in let a = arguments_view start.now.args.now in
+    ensures numbers { let s = context_schema context.now in let g = context_granted context.now in let a = arguments_view start.now.args.now in
         OnOk result (next.new ≡ next.old + part_numbers (keyed_part_view keyed.now).1 s g (start_table s start.now) a) }
 {
     let value = part_value(alloc, *next, &keyed.part)?;
@@ -374,10 +374,10 @@ fn push_part_joins(
     next: &mut u64,
     joins: &mut JoinList,
 ) -> Result<(), Memory>
-    ensures joins { let s = context_schema context.now in let g = context_rights context.now in let l = start.now in
+    ensures joins { let s = context_schema context.now in let g = context_granted context.now in let l = start.now in
         OnOk result (map join_view joins.new.items ≡ map join_view joins.old.items
         ++ part_joins (part_view part.now) s g (start_origin l) l.row_table l.row_number (arguments_view l.args.now) next.old) }
-    ensures numbers { let s = context_schema context.now in let g = context_rights context.now in let a = arguments_view start.now.args.now in
+    ensures numbers { let s = context_schema context.now in let g = context_granted context.now in let a = arguments_view start.now.args.now in
         OnOk result (next.new ≡ next.old + part_numbers (part_view part.now) s g (start_table s start.now) a) }
 {
     match part {
@@ -411,9 +411,9 @@ fn summary_join(
     fields: &AggFields,
     next: &mut u64,
 ) -> Result<Join, Memory>
-    ensures join { let s = context_schema context.now in let g = context_rights context.now in let l = start.now in
+    ensures join { let s = context_schema context.now in let g = context_granted context.now in let l = start.now in
         IfOk result (λ join. join_view join ∷ [] ≡ part_joins (summary fields.now) s g (start_origin l) l.row_table l.row_number (arguments_view l.args.now) next.old) }
-    ensures numbers { let s = context_schema context.now in let g = context_rights context.now in let a = arguments_view start.now.args.now in
+    ensures numbers { let s = context_schema context.now in let g = context_granted context.now in let a = arguments_view start.now.args.now in
         OnOk result (next.new ≡ next.old + part_numbers (summary fields.now) s g (start_table s start.now) a) }
 {
     let n = take_number(next)?;
@@ -431,11 +431,11 @@ pub(crate) fn root_row(
     fields: &AskFields,
     next: &mut u64,
 ) -> Result<Row, Memory>
-    ensures pairs { let s = context_schema context.now in let g = context_rights context.now in
+    ensures pairs { let s = context_schema context.now in let g = context_granted context.now in
         IfOk result (λ row. map pair_view row.pairs.items ≡ fields_values (table_fields (fields_view fields.now.items)) s g (own_look (table s root).columns 0) root next.old) }
-    ensures joins { let s = context_schema context.now in let g = context_rights context.now in
+    ensures joins { let s = context_schema context.now in let g = context_granted context.now in
         IfOk result (λ row. map join_view row.joins.items ≡ fields_joins (table_fields (fields_view fields.now.items)) s g root 0 next.old) }
-    ensures numbers { let s = context_schema context.now in let g = context_rights context.now in
+    ensures numbers { let s = context_schema context.now in let g = context_granted context.now in
         OnOk result (next.new ≡ next.old + fields_numbers (table_fields (fields_view fields.now.items)) s g root) }
 {
     let mut row = empty_row(alloc);
@@ -454,12 +454,12 @@ fn push_root(
     next: &mut u64,
     row: &mut Row,
 ) -> Result<(), Memory>
-    ensures pairs { let s = context_schema context.now in let g = context_rights context.now in
+    ensures pairs { let s = context_schema context.now in let g = context_granted context.now in
         OnOk result (map pair_view row.new.pairs.items ≡ map pair_view row.old.pairs.items
         ++ fields_values (table_fields (fields_view (keyed.now ∷ []))) s g (own_look (table s root).columns 0) root next.old) }
-    ensures joins { let s = context_schema context.now in let g = context_rights context.now in
+    ensures joins { let s = context_schema context.now in let g = context_granted context.now in
         OnOk result (map join_view row.new.joins.items ≡ map join_view row.old.joins.items ++ fields_joins (table_fields (fields_view (keyed.now ∷ []))) s g root 0 next.old) }
-    ensures numbers { let s = context_schema context.now in let g = context_rights context.now in
+    ensures numbers { let s = context_schema context.now in let g = context_granted context.now in
         OnOk result (next.new ≡ next.old + fields_numbers (table_fields (fields_view (keyed.now ∷ []))) s g root) }
 {
     if is_table_field(&keyed.field) {

@@ -4,8 +4,8 @@ ghost use Rattle.hq_model.specs.Meta.{meta_view};
 ghost use Rattle.hq_model.specs.Schema.{schema_of};
 ghost use Rattle.hq_model.specs.Permission.{option_list};
 ghost use Rattle.hq_request_tree.specs.Request.{ask_view, bound_view, grants_in};
-ghost use Rattle.hq_translation.specs.GrantedTables.{rights_of};
-ghost use Rattle.hq_compile_tables.specs.Contexts.{rights_in};
+ghost use Rattle.hq_translation.specs.GrantedTables.{granted_of};
+ghost use Rattle.hq_compile_tables.specs.Contexts.{granted_in};
 ghost use Rattle.hq_model_limits.specs.Limits.{rows_of};
 ghost use Rattle.hq_compile.specs.GrantedTrees.{granted_view, granted_with, granted_for, granted_all};
 ghost use Rattle.hq_model.specs.PermView.{mask_view};
@@ -108,7 +108,7 @@ pub(crate) fn granted(
     catalog: &Catalog,
     meta: &Meta,
 ) -> Result<GrantedList, Memory>
-    ensures { IfOk result (λ gs. rights_in gs ≡ rights_of (grants_in (ask_view ask.now) (meta_view meta.now) (schema_of catalog.now.tables (meta_view meta.now)))) }
+    ensures { IfOk result (λ gs. granted_in gs ≡ granted_of (grants_in (ask_view ask.now) (meta_view meta.now) (schema_of catalog.now.tables (meta_view meta.now)))) }
 {
     granted_all(alloc, &ask.role, catalog, meta, ask.bound.as_slice())
 }

@@ -19,7 +19,7 @@ ghost use Rattle.hq_translation.specs.Fields.{fields_numbers};
 ghost use Rattle.hq_translation.specs.Statement.{statement};
 ghost use Rattle.hq_translation.specs.Asked.{asked_statement, IsHeld};
 ghost use Rattle.hq_laws_confine.specs.Own.Asks.{IsAskedConfined};
-ghost use Rattle.hq_compile_tables.specs.Contexts.{context_schema, context_rights};
+ghost use Rattle.hq_compile_tables.specs.Contexts.{context_schema, context_granted};
 ghost use Rattle.hq_compile.specs.Fields.{fields_view};
 
 use crate::counts::count_fields;
@@ -48,8 +48,8 @@ fn statement(
     fields: &AskFields,
 ) -> Result<Select, Memory>
     requires { root ≡ length (context_schema context.now) }
-    ensures tree { IfOk result (λ select. select_view select ≡ statement (table_fields (fields_view fields.now.items)) (context_schema context.now) (context_rights context.now)) }
-    ensures numbers { OnOk result (1 + fields_numbers (table_fields (fields_view fields.now.items)) (context_schema context.now) (context_rights context.now) root ≤ 2 ^ 64) }
+    ensures tree { IfOk result (λ select. select_view select ≡ statement (table_fields (fields_view fields.now.items)) (context_schema context.now) (context_granted context.now)) }
+    ensures numbers { OnOk result (1 + fields_numbers (table_fields (fields_view fields.now.items)) (context_schema context.now) (context_granted context.now) root ≤ 2 ^ 64) }
 {
     let mut next = 1;
     let row = root_row(alloc, context, root, fields, &mut next)?;

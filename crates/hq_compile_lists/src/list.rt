@@ -13,7 +13,7 @@ ghost use Rattle.hq_translation.specs.Masks.{filter_numbers, filter_predicate, w
 ghost use Rattle.hq_translation.specs.Names.{fold_alias, value_name};
 ghost use Rattle.hq_translation.specs.Predicates.{predicate};
 ghost use Rattle.hq_translation.specs.Sorts.{sorts_numbers, sorts_joins, orders, key_outputs, output_orders};
-ghost use Rattle.hq_compile_tables.specs.Contexts.{context_schema, context_rights};
+ghost use Rattle.hq_compile_tables.specs.Contexts.{context_schema, context_granted};
 ghost use Rattle.hq_compile_tables.specs.Shown.{look_in, look_of};
 ghost use Rattle.hq_compile_lists.specs.Bodies.{IsBody, rows_of};
 ghost use Rattle.hq_compile_lists.specs.Starts.{start_tie};
@@ -83,11 +83,11 @@ fn list_members(
     places: &[MaskPlace],
     next: &mut u64,
 ) -> Result<PredList, Memory>
-    ensures members { let s = context_schema context.now in let g = context_rights context.now in
+    ensures members { let s = context_schema context.now in let g = context_granted context.now in
         let look = look_in places.now (table s t).columns n in
         let wanted = predicate (bexp_view start.now.args.now.filter) s (where_mode s g) look t n (next.old + filter_numbers s g t) in
         IfOk result (λ all. map pred_view all.items ≡ with_member (start_tie s start.now n) (with_member (filter_predicate s g t n next.old) (with_member wanted []))) }
-    ensures numbers { let s = context_schema context.now in let g = context_rights context.now in
+    ensures numbers { let s = context_schema context.now in let g = context_granted context.now in
         OnOk result (next.new ≡ next.old + filter_numbers s g t + where_numbers (bexp_view start.now.args.now.filter) s g t) }
 {
     let tie = list_tie(alloc, context, start, n)?;
@@ -106,16 +106,16 @@ fn list_parts(
     args: &Args,
     next: &mut u64,
 ) -> Result<SortParts, Memory>
-    ensures joins { let s = context_schema context.now in let g = context_rights context.now in
+    ensures joins { let s = context_schema context.now in let g = context_granted context.now in
         IfOk result (λ parts. map join_view parts.joins.items ≡ sorts_joins (list_sorts s t (arguments_view args.now)) s g t n next.old) }
-    ensures orders { let s = context_schema context.now in let g = context_rights context.now in
+    ensures orders { let s = context_schema context.now in let g = context_granted context.now in
         let look = look_in places.now (table s t).columns n in
         IfOk result (λ parts. map order_view parts.orders.items ≡ orders (list_sorts s t (arguments_view args.now)) s g look t n next.old) }
-    ensures outputs { let s = context_schema context.now in let g = context_rights context.now in
+    ensures outputs { let s = context_schema context.now in let g = context_granted context.now in
         let look = look_in places.now (table s t).columns n in
         IfOk result (λ parts. map out_view parts.outputs.items ≡ key_outputs (list_sorts s t (arguments_view args.now)) s g look t n next.old 0) }
     ensures numbers { let s = context_schema context.now in
-        OnOk result (next.new ≡ next.old + sorts_numbers (list_sorts s t (arguments_view args.now)) s (context_rights context.now) t) }
+        OnOk result (next.new ≡ next.old + sorts_numbers (list_sorts s t (arguments_view args.now)) s (context_granted context.now) t) }
 {
     let sorts = list_sorts(alloc, context, t, args)?;
     sort_parts(alloc, context, t, n, places, sorts.as_slice(), next)
@@ -133,9 +133,9 @@ pub fn list_body(
 ) -> Result<ListBody, Memory>
     requires { next.old ≡ n + 1 }
     ensures body { let s = context_schema context.now in let a = arguments_view start.now.args.now in
-        IfOk result (λ body. IsBody s (context_rights context.now) t used.now a n (start_tie s start.now n) body) }
+        IfOk result (λ body. IsBody s (context_granted context.now) t used.now a n (start_tie s start.now n) body) }
     ensures numbers { let a = arguments_view start.now.args.now in
-        OnOk result (next.new ≡ children_from (context_schema context.now) (context_rights context.now) t used.now a n) }
+        OnOk result (next.new ≡ children_from (context_schema context.now) (context_granted context.now) t used.now a n) }
 {
     let masks = mask_parts(alloc, context, t, n, used, next)?;
     let places = masks.places.as_slice();
@@ -269,7 +269,7 @@ fn object_rows(
     row: Row,
 ) -> Result<Select, Memory>
     ensures { let outs = record { value = tree.object (tree.pairs_of (map pair_view row.pairs.items)); name = value_name } ∷ map out_view body.sorts.outputs.items in
-        let limit = smaller args.now.limit ((context_rights context.now).limit t) in
+        let limit = smaller args.now.limit ((context_granted context.now).limit t) in
         IfOk result (λ select. select_view select ≡ rows_of (context_schema context.now) t n body limit outs (map join_view row.joins.items) args.now.offset) }
 {
     let outs = row_outputs(alloc, object(row.pairs), &mut body.sorts.outputs)?;
@@ -297,7 +297,7 @@ pub fn list_select(
     body: ListBody,
     row: Row,
 ) -> Result<Select, Memory>
-    ensures { let s = context_schema context.now in let g = context_rights context.now in let a = arguments_view args.now in
+    ensures { let s = context_schema context.now in let g = context_granted context.now in let a = arguments_view args.now in
         (used : List ℕ) (tie : PredTree) → IsBody s g t used a n tie body →
         IfOk result (λ select. select_view select ≡ list_select s g t used a n tie (map pair_view row.pairs.items) (map join_view row.joins.items)) }
 {

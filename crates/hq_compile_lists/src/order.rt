@@ -8,7 +8,7 @@ ghost use Rattle.hq_translation.specs.Looks.{type_in, compared_form, cell_at};
 ghost use Rattle.hq_translation.specs.Masks.{value_output};
 ghost use Rattle.hq_translation.specs.Names.{fold_alias, join_alias, key_name};
 ghost use Rattle.hq_translation.specs.Sorts.{end_of, sort_place, sort_numbers, sort_joins, sorts_numbers, sorts_joins, orders, key_outputs, output_orders};
-ghost use Rattle.hq_compile_tables.specs.Contexts.{context_schema, context_rights};
+ghost use Rattle.hq_compile_tables.specs.Contexts.{context_schema, context_granted};
 ghost use Rattle.hq_compile_tables.specs.Selects.{first_row};
 ghost use Rattle.hq_compile_tables.specs.Shown.{look_in};
 ghost use Rattle.hq_compile_lists.specs.RowSorts.{row_sort_view};
@@ -126,8 +126,8 @@ fn sort_joins(
     column: ColId,
     next: &mut u64,
 ) -> Result<JoinList, Memory>
-    ensures joins { IfOk result (λ joins. map join_view joins.items ≡ sort_joins through.now (context_schema context.now) (context_rights context.now) t p next.old column) }
-    ensures numbers { OnOk result (next.new ≡ next.old + sort_numbers through.now (context_schema context.now) (context_rights context.now) t column) }
+    ensures joins { IfOk result (λ joins. map join_view joins.items ≡ sort_joins through.now (context_schema context.now) (context_granted context.now) t p next.old column) }
+    ensures numbers { OnOk result (next.new ≡ next.old + sort_numbers through.now (context_schema context.now) (context_granted context.now) t column) }
 {
     match through {
         [] => Ok(Vec::new(alloc)),
@@ -171,7 +171,7 @@ fn row_order(
     n: u64,
 ) -> Result<Order, Memory>
     ensures { let s = context_schema context.now in
-        IfOk result (λ order. order_view order ∷ [] ≡ orders (row_sort_view sort.now ∷ []) s (context_rights context.now) (look_in places.now (table s t).columns p) t p n) }
+        IfOk result (λ order. order_view order ∷ [] ≡ orders (row_sort_view sort.now ∷ []) s (context_granted context.now) (look_in places.now (table s t).columns p) t p n) }
 {
     let end = end_of(context, t, sort.through.as_slice());
     let form = compared_form(type_in(context.columns(end), sort.column));
@@ -206,7 +206,7 @@ fn row_output(
     i: u64,
 ) -> Result<Out, Memory>
     ensures { let s = context_schema context.now in
-        IfOk result (λ out. out_view out ∷ [] ≡ key_outputs (row_sort_view sort.now ∷ []) s (context_rights context.now) (look_in places.now (table s t).columns p) t p n i) }
+        IfOk result (λ out. out_view out ∷ [] ≡ key_outputs (row_sort_view sort.now ∷ []) s (context_granted context.now) (look_in places.now (table s t).columns p) t p n i) }
 {
     let value = sort_column(
         alloc,
@@ -236,15 +236,15 @@ fn push_sort(
     next: &mut u64,
     parts: &mut SortParts,
 ) -> Result<(), Memory>
-    ensures joins { let s = context_schema context.now in let g = context_rights context.now in
+    ensures joins { let s = context_schema context.now in let g = context_granted context.now in
         OnOk result (map join_view parts.new.joins.items ≡ map join_view parts.old.joins.items ++ sort_joins sort.now.through s g t p next.old sort.now.column) }
-    ensures orders { let s = context_schema context.now in let g = context_rights context.now in
+    ensures orders { let s = context_schema context.now in let g = context_granted context.now in
         OnOk result (map order_view parts.new.orders.items ≡ map order_view parts.old.orders.items
         ++ orders (row_sort_view sort.now ∷ []) s g (look_in places.now (table s t).columns p) t p next.old) }
-    ensures outputs { let s = context_schema context.now in let g = context_rights context.now in
+    ensures outputs { let s = context_schema context.now in let g = context_granted context.now in
         OnOk result (map out_view parts.new.outputs.items ≡ map out_view parts.old.outputs.items
         ++ key_outputs (row_sort_view sort.now ∷ []) s g (look_in places.now (table s t).columns p) t p next.old i) }
-    ensures numbers { OnOk result (next.new ≡ next.old + sort_numbers sort.now.through (context_schema context.now) (context_rights context.now) t sort.now.column) }
+    ensures numbers { OnOk result (next.new ≡ next.old + sort_numbers sort.now.through (context_schema context.now) (context_granted context.now) t sort.now.column) }
 {
     parts
         .orders
@@ -275,13 +275,13 @@ pub fn sort_parts(
     sorts: &[RowSort],
     next: &mut u64,
 ) -> Result<SortParts, Memory>
-    ensures joins { let s = context_schema context.now in let g = context_rights context.now in
+    ensures joins { let s = context_schema context.now in let g = context_granted context.now in
         IfOk result (λ parts. map join_view parts.joins.items ≡ sorts_joins (map row_sort_view sorts.now) s g t p next.old) }
-    ensures orders { let s = context_schema context.now in let g = context_rights context.now in
+    ensures orders { let s = context_schema context.now in let g = context_granted context.now in
         IfOk result (λ parts. map order_view parts.orders.items ≡ orders (map row_sort_view sorts.now) s g (look_in places.now (table s t).columns p) t p next.old) }
-    ensures outputs { let s = context_schema context.now in let g = context_rights context.now in
+    ensures outputs { let s = context_schema context.now in let g = context_granted context.now in
         IfOk result (λ parts. map out_view parts.outputs.items ≡ key_outputs (map row_sort_view sorts.now) s g (look_in places.now (table s t).columns p) t p next.old 0) }
-    ensures numbers { OnOk result (next.new ≡ next.old + sorts_numbers (map row_sort_view sorts.now) (context_schema context.now) (context_rights context.now) t) }
+    ensures numbers { OnOk result (next.new ≡ next.old + sorts_numbers (map row_sort_view sorts.now) (context_schema context.now) (context_granted context.now) t) }
 {
     let mut parts = SortParts {
         joins: Vec::new(alloc),

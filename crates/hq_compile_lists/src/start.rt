@@ -10,7 +10,7 @@ ghost use Rattle.hq_translation.specs.Fields.{key_members};
 ghost use Rattle.hq_translation.specs.Looks.{compared_at, type_in};
 ghost use Rattle.hq_translation.specs.Masks.{masks, shown_look, filter_numbers, filter_predicate};
 ghost use Rattle.hq_translation.specs.Selects.{filter_from, behind_filter};
-ghost use Rattle.hq_compile_tables.specs.Contexts.{context_schema, context_rights};
+ghost use Rattle.hq_compile_tables.specs.Contexts.{context_schema, context_granted};
 ghost use Rattle.hq_compile_tables.specs.Shown.{look_in, look_of};
 ghost use Rattle.hq_compile_lists.specs.Starts.{start_table, start_tie};
 
@@ -67,10 +67,10 @@ fn keyed_members(
     key: &[Val],
     next: &mut u64,
 ) -> Result<PredList, Memory>
-    ensures members { let s = context_schema context.now in let g = context_rights context.now in
+    ensures members { let s = context_schema context.now in let g = context_granted context.now in
         let columns = (table s t).columns in let tie = joined_by_and (key_members columns (look_in places.now columns n) (table s t).key key.now) in
         IfOk result (λ all. map pred_view all.items ≡ with_member tie (with_member (filter_predicate s g t n next.old) [])) }
-    ensures numbers { let s = context_schema context.now in let g = context_rights context.now in
+    ensures numbers { let s = context_schema context.now in let g = context_granted context.now in
         OnOk result (next.new ≡ next.old + filter_numbers s g t) }
 {
     let shown = table_shown(context, t, n, places);
@@ -89,15 +89,15 @@ pub fn key_row(
 ) -> Result<FirstRow, Memory>
     ensures table { IfOk result (λ first. first.table ≡ t) }
     ensures number { IfOk result (λ first. first.number ≡ next.old) }
-    ensures joins { let s = context_schema context.now in let g = context_rights context.now in
+    ensures joins { let s = context_schema context.now in let g = context_granted context.now in
         IfOk result (λ first. map join_view first.masks.joins.items ≡ masks s g t used.now next.old) }
-    ensures looks { let s = context_schema context.now in let g = context_rights context.now in
+    ensures looks { let s = context_schema context.now in let g = context_granted context.now in
         IfOk result (λ first. look_in first.masks.places (table s t).columns next.old ≡ shown_look s g t used.now next.old) }
-    ensures members { let s = context_schema context.now in let g = context_rights context.now in
+    ensures members { let s = context_schema context.now in let g = context_granted context.now in
         let n = next.old in let filter = filter_predicate s g t n (filter_from s g t used.now n) in
         let tie = joined_by_and (key_members (table s t).columns (shown_look s g t used.now n) (table s t).key key.now) in
         IfOk result (λ first. map pred_view first.members.items ≡ with_member tie (with_member filter [])) }
-    ensures numbers { OnOk result (next.new ≡ behind_filter (context_schema context.now) (context_rights context.now) t used.now next.old) }
+    ensures numbers { OnOk result (next.new ≡ behind_filter (context_schema context.now) (context_granted context.now) t used.now next.old) }
 {
     let number = take_number(next)?;
     let masks = mask_parts(alloc, context, t, number, used, next)?;

@@ -8,7 +8,7 @@ ghost use Rattle.hq_translation.specs.Names.{fold_alias, value_name, needed_name
 ghost use Rattle.hq_translation.specs.Aggregates.{needed, needed_cell, counted_form, taken_value, taken_pairs, count_value, summary_value, summary_pairs, needed_columns, needed_outputs, summary_used, summary_numbers, folded_select, plain_select, summary_select};
 ghost use Rattle.hq_translation.specs.Lists.{list_used, list_rows, children_from};
 ghost use Rattle.hq_translation.specs.Masks.{shown_look};
-ghost use Rattle.hq_compile_tables.specs.Contexts.{context_schema, context_rights};
+ghost use Rattle.hq_compile_tables.specs.Contexts.{context_schema, context_granted};
 ghost use Rattle.hq_compile_tables.specs.Shown.{look_in, look_of};
 ghost use Rattle.hq_compile_lists.specs.Starts.{start_tie};
 
@@ -274,11 +274,11 @@ fn needed_rows(
     next: &mut u64,
 ) -> Result<Select, Memory>
     requires { next.old ≡ n + 1 }
-    ensures select { let s = context_schema context.now in let g = context_rights context.now in let a = arguments_view start.now.args.now in
+    ensures select { let s = context_schema context.now in let g = context_granted context.now in let a = arguments_view start.now.args.now in
         let cs = list_used s t a needed.now in let outs = needed_outputs (shown_look s g t cs n) needed.now in
         IfOk result (λ select. select_view select ≡ list_rows s g t cs a n (start_tie s start.now n) a.limit outs []) }
     ensures numbers { let s = context_schema context.now in let a = arguments_view start.now.args.now in
-        OnOk result (next.new ≡ children_from s (context_rights context.now) t (list_used s t a needed.now) a n) }
+        OnOk result (next.new ≡ children_from s (context_granted context.now) t (list_used s t a needed.now) a n) }
 {
     let used = list_used(alloc, context, t, start.args, needed)?;
     let body = list_body(alloc, context, start, t, n, used.as_slice(), next)?;
@@ -329,9 +329,9 @@ fn folded_select(
 ) -> Result<Select, Memory>
     requires { next.old ≡ n + 1 }
     ensures select { let s = context_schema context.now in let a = arguments_view start.now.args.now in
-        IfOk result (λ select. select_view select ≡ folded_select fields.now s (context_rights context.now) t a n (start_tie s start.now n)) }
+        IfOk result (λ select. select_view select ≡ folded_select fields.now s (context_granted context.now) t a n (start_tie s start.now n)) }
     ensures numbers { let s = context_schema context.now in let a = arguments_view start.now.args.now in
-        OnOk result (next.new ≡ children_from s (context_rights context.now) t (summary_used s t a fields.now) a n) }
+        OnOk result (next.new ≡ children_from s (context_granted context.now) t (summary_used s t a fields.now) a n) }
 {
     let needs = needed(alloc, fields)?;
     let rows = needed_rows(alloc, context, start, t, n, needs.as_slice(), next)?;
@@ -368,8 +368,8 @@ pub fn summary_select(
 ) -> Result<Select, Memory>
     requires { next.old ≡ n + 1 }
     ensures select { let s = context_schema context.now in let a = arguments_view start.now.args.now in
-        IfOk result (λ select. select_view select ≡ summary_select fields.now s (context_rights context.now) t a n (start_tie s start.now n)) }
-    ensures numbers { OnOk result (next.new ≡ n + summary_numbers fields.now (context_schema context.now) (context_rights context.now) t (arguments_view start.now.args.now)) }
+        IfOk result (λ select. select_view select ≡ summary_select fields.now s (context_granted context.now) t a n (start_tie s start.now n)) }
+    ensures numbers { OnOk result (next.new ≡ n + summary_numbers fields.now (context_schema context.now) (context_granted context.now) t (arguments_view start.now.args.now)) }
 {
     if some_aggregate(fields) {
         folded_select(alloc, context, start, t, n, fields, next)

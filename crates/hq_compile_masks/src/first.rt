@@ -6,7 +6,7 @@ ghost use Rattle.hq_translation.specs.Conditions.{with_member};
 ghost use Rattle.hq_translation.specs.Masks.{masks, shown_look, filter_numbers, filter_predicate};
 ghost use Rattle.hq_translation.specs.Predicates.{link};
 ghost use Rattle.hq_translation.specs.Selects.{filter_from, behind_filter};
-ghost use Rattle.hq_compile_tables.specs.Contexts.{context_schema, context_rights};
+ghost use Rattle.hq_compile_tables.specs.Contexts.{context_schema, context_granted};
 ghost use Rattle.hq_compile_tables.specs.Shown.{look_in};
 
 use crate::masks::mask_parts;
@@ -37,9 +37,9 @@ fn linked_members(
     n: u64,
     next: &mut u64,
 ) -> Result<PredList, Memory>
-    ensures members { let s = context_schema context.now in let g = context_rights context.now in let u = (rel s t r).remote in
+    ensures members { let s = context_schema context.now in let g = context_granted context.now in let u = (rel s t r).remote in
         IfOk result (λ all. map pred_view all.items ≡ with_member (link s t (rel s t r) p n) (with_member (filter_predicate s g u n next.old) [])) }
-    ensures numbers { let s = context_schema context.now in let g = context_rights context.now in
+    ensures numbers { let s = context_schema context.now in let g = context_granted context.now in
         OnOk result (next.new ≡ next.old + filter_numbers s g (rel s t r).remote) }
 {
     let link = link(alloc, context, t, r, p, n)?;
@@ -58,14 +58,14 @@ pub fn remote_row(
 ) -> Result<FirstRow, Memory>
     ensures table { IfOk result (λ first. first.table ≡ (rel (context_schema context.now) t r).remote) }
     ensures number { IfOk result (λ first. first.number ≡ next.old) }
-    ensures joins { let s = context_schema context.now in let g = context_rights context.now in
+    ensures joins { let s = context_schema context.now in let g = context_granted context.now in
         IfOk result (λ first. map join_view first.masks.joins.items ≡ masks s g (rel s t r).remote used.now next.old) }
-    ensures looks { let s = context_schema context.now in let g = context_rights context.now in let u = (rel s t r).remote in
+    ensures looks { let s = context_schema context.now in let g = context_granted context.now in let u = (rel s t r).remote in
         IfOk result (λ first. look_in first.masks.places (table s u).columns next.old ≡ shown_look s g u used.now next.old) }
-    ensures members { let s = context_schema context.now in let g = context_rights context.now in
+    ensures members { let s = context_schema context.now in let g = context_granted context.now in
         let u = (rel s t r).remote in let n = next.old in let filter = filter_predicate s g u n (filter_from s g u used.now n) in
         IfOk result (λ first. map pred_view first.members.items ≡ with_member (link s t (rel s t r) p n) (with_member filter [])) }
-    ensures numbers { let s = context_schema context.now in let g = context_rights context.now in
+    ensures numbers { let s = context_schema context.now in let g = context_granted context.now in
         OnOk result (next.new ≡ behind_filter s g (rel s t r).remote used.now next.old) }
 {
     let number = take_number(next)?;

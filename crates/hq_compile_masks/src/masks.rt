@@ -8,7 +8,7 @@ ghost use Rattle.hq_translation.specs.Conditions.{where_of, with_member};
 ghost use Rattle.hq_translation.specs.Masks.{value_output, mask_numbers, mask_select, mask_joins, extra, masks, shown_look};
 ghost use Rattle.hq_translation.specs.Names.{table_alias, join_alias};
 ghost use Rattle.hq_translation.specs.Predicates.{own_numbers, own_predicate};
-ghost use Rattle.hq_compile_tables.specs.Contexts.{context_schema, context_rights};
+ghost use Rattle.hq_compile_tables.specs.Contexts.{context_schema, context_granted};
 ghost use Rattle.hq_compile_tables.specs.Shown.{look_in};
 ghost use Rattle.hq_compile_masks.specs.MaskPlaces.{used_of, mask_places};
 
@@ -138,11 +138,11 @@ pub fn mask_parts(
     next: &mut u64,
 ) -> Result<MaskParts, Memory>
     requires { next.old ≡ p + 1 }
-    ensures joins { let s = context_schema context.now in let g = context_rights context.now in
+    ensures joins { let s = context_schema context.now in let g = context_granted context.now in
         IfOk result (λ parts. map join_view parts.joins.items ≡ masks s g t used.now p) }
-    ensures looks { let s = context_schema context.now in let g = context_rights context.now in
+    ensures looks { let s = context_schema context.now in let g = context_granted context.now in
         IfOk result (λ parts. look_in parts.places (table s t).columns p ≡ shown_look s g t used.now p) }
-    ensures numbers { OnOk result (next.new ≡ next.old + extra (context_schema context.now) (context_rights context.now) t used.now) }
+    ensures numbers { OnOk result (next.new ≡ next.old + extra (context_schema context.now) (context_granted context.now) t used.now) }
 {
     let mut parts = MaskParts {
         joins: Vec::new(alloc),

@@ -6,7 +6,7 @@ ghost use Rattle.hq_sql_tree.specs.View.{pred_view};
 ghost use Rattle.hq_translation.specs.Lists.{where_numbers};
 ghost use Rattle.hq_translation.specs.Masks.{where_mode};
 ghost use Rattle.hq_translation.specs.Predicates.{predicate};
-ghost use Rattle.hq_compile_tables.specs.Contexts.{context_schema, context_rights};
+ghost use Rattle.hq_compile_tables.specs.Contexts.{context_schema, context_granted};
 ghost use Rattle.hq_compile_tables.specs.Shown.{look_in};
 
 use crate::masks::mask_parts;
@@ -62,8 +62,8 @@ pub fn where_predicate(
     next: &mut u64,
 ) -> Result<Pred, Memory>
     ensures predicate { let s = context_schema context.now in let look = look_in places.now (table s t).columns number in
-        IfOk result (λ p. pred_view p ≡ predicate (bexp_view wanted.now) s (where_mode s (context_rights context.now)) look t number next.old) }
-    ensures numbers { OnOk result (next.new ≡ next.old + where_numbers (bexp_view wanted.now) (context_schema context.now) (context_rights context.now) t) }
+        IfOk result (λ p. pred_view p ≡ predicate (bexp_view wanted.now) s (where_mode s (context_granted context.now)) look t number next.old) }
+    ensures numbers { OnOk result (next.new ≡ next.old + where_numbers (bexp_view wanted.now) (context_schema context.now) (context_granted context.now) t) }
 {
     predicate_of(
         alloc,

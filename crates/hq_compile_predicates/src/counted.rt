@@ -23,7 +23,7 @@ pub trait Counted {
     ghost use Rattle.hq_sql_tree.specs.View.{join_view, pred_view};
     ghost use Rattle.hq_translation.specs.Predicates.{Mode, columns_in};
     ghost use Rattle.hq_translation.specs.GrantedTables.{GrantedTables};
-    ghost use Rattle.hq_compile_tables.specs.Contexts.{context_schema, context_rights};
+    ghost use Rattle.hq_compile_tables.specs.Contexts.{context_schema, context_granted};
     ghost use Rattle.hq_compile_tables.specs.Shown.{look_in};
 
     /// What a remote alias has beside its link.
@@ -40,11 +40,11 @@ pub trait Counted {
         next: &mut u64,
     ) -> Result<MaskParts, Memory>
         requires { next.old ≡ number + 1 }
-        ensures joins { let m = mode (context_schema context.now) (context_rights context.now) in
+        ensures joins { let m = mode (context_schema context.now) (context_granted context.now) in
             IfOk result (λ parts. map join_view parts.joins.items ≡ m.joins table (columns_in (bexp_view inner.now)) number) }
-        ensures looks { let s = context_schema context.now in let m = mode s (context_rights context.now) in
+        ensures looks { let s = context_schema context.now in let m = mode s (context_granted context.now) in
             IfOk result (λ parts. look_in parts.places (table_of s table).columns number ≡ m.look table (columns_in (bexp_view inner.now)) number) }
-        ensures numbers { let m = mode (context_schema context.now) (context_rights context.now) in
+        ensures numbers { let m = mode (context_schema context.now) (context_granted context.now) in
             OnOk result (next.new ≡ next.old + m.extra table (columns_in (bexp_view inner.now))) };
 
     /// The condition on rows of this table at the alias of this number.
@@ -56,9 +56,9 @@ pub trait Counted {
         number: u64,
         next: &mut u64,
     ) -> Result<Pred, Memory>
-        ensures predicate { let m = mode (context_schema context.now) (context_rights context.now) in
+        ensures predicate { let m = mode (context_schema context.now) (context_granted context.now) in
             IfOk result (λ p. pred_view p ≡ m.guard table number next.old) }
-        ensures numbers { let m = mode (context_schema context.now) (context_rights context.now) in
+        ensures numbers { let m = mode (context_schema context.now) (context_granted context.now) in
             OnOk result (next.new ≡ next.old + m.more table) };
 }
 

@@ -8,7 +8,7 @@ ghost use Rattle.hq_translation.specs.Conditions.{with_member, where_of};
 ghost use Rattle.hq_translation.specs.Looks.{own_look};
 ghost use Rattle.hq_translation.specs.Predicates.{columns_in, numbers, numbers_all, counted_rows, inner_from, predicate, predicates, own_predicate, own_numbers};
 ghost use Rattle.hq_translation.specs.Masks.{filter_numbers, filter_predicate};
-ghost use Rattle.hq_compile_tables.specs.Contexts.{context_schema, context_rights};
+ghost use Rattle.hq_compile_tables.specs.Contexts.{context_schema, context_granted};
 ghost use Rattle.hq_compile_tables.specs.Selects.{exists_where};
 ghost use Rattle.hq_compile_tables.specs.Shown.{look_in};
 
@@ -34,10 +34,10 @@ pub fn predicate_of<C: Counted>(
     bexp: &Bexp,
     next: &mut u64,
 ) -> Result<Pred, Memory>
-    ensures predicate { let s = context_schema context.now in let m = C.mode s (context_rights context.now) in
+    ensures predicate { let s = context_schema context.now in let m = C.mode s (context_granted context.now) in
         IfOk result (λ pred. pred_view pred ≡ predicate (bexp_view bexp.now) s m (look_in places.now (table s t).columns p) t p next.old) }
     ensures numbers { let s = context_schema context.now in
-        OnOk result (next.new ≡ next.old + numbers (bexp_view bexp.now) s (C.mode s (context_rights context.now)) t) }
+        OnOk result (next.new ≡ next.old + numbers (bexp_view bexp.now) s (C.mode s (context_granted context.now)) t) }
 {
     match bexp {
         Bexp::True => Ok(Pred::True),
@@ -90,10 +90,10 @@ fn remote_row<C: Counted>(
     inner: &Bexp,
     next: &mut u64,
 ) -> Result<Pred, Memory>
-    ensures predicate { let s = context_schema context.now in let m = C.mode s (context_rights context.now) in
+    ensures predicate { let s = context_schema context.now in let m = C.mode s (context_granted context.now) in
         IfOk result (λ pred. pred_view pred ≡ predicate (through r (bexp_view inner.now)) s m (own_look (table s t).columns p) t p next.old) }
     ensures numbers { let s = context_schema context.now in
-        OnOk result (next.new ≡ next.old + numbers (through r (bexp_view inner.now)) s (C.mode s (context_rights context.now)) t) }
+        OnOk result (next.new ≡ next.old + numbers (through r (bexp_view inner.now)) s (C.mode s (context_granted context.now)) t) }
 {
     let n = take_number(next)?;
     let remote = context.remote(t, r);
@@ -111,10 +111,10 @@ fn some_row<C: Counted>(
     inner: &Bexp,
     next: &mut u64,
 ) -> Result<Pred, Memory>
-    ensures predicate { let s = context_schema context.now in let m = C.mode s (context_rights context.now) in
+    ensures predicate { let s = context_schema context.now in let m = C.mode s (context_granted context.now) in
         IfOk result (λ pred. pred_view pred ≡ predicate (exists_in u (bexp_view inner.now)) s m (own_look [] 0) 0 0 next.old) }
     ensures numbers { let s = context_schema context.now in
-        OnOk result (next.new ≡ next.old + numbers (exists_in u (bexp_view inner.now)) s (C.mode s (context_rights context.now)) 0) }
+        OnOk result (next.new ≡ next.old + numbers (exists_in u (bexp_view inner.now)) s (C.mode s (context_granted context.now)) 0) }
 {
     let n = take_number(next)?;
     counted_row(alloc, context, counted, u, n, inner, Pred::True, next)
@@ -133,10 +133,10 @@ fn counted_row<C: Counted>(
     next: &mut u64,
 ) -> Result<Pred, Memory>
     requires { next.old ≡ n + 1 }
-    ensures predicate { let s = context_schema context.now in let m = C.mode s (context_rights context.now) in
+    ensures predicate { let s = context_schema context.now in let m = C.mode s (context_granted context.now) in
         let b = bexp_view inner.now in let cs = columns_in b in
         IfOk result (λ pred. pred_view pred ≡ tree.exists (counted_rows s m u n cs (pred_view tie) (predicate b s m (m.look u cs n) u n (inner_from m u cs n)))) }
-    ensures numbers { let s = context_schema context.now in let m = C.mode s (context_rights context.now) in
+    ensures numbers { let s = context_schema context.now in let m = C.mode s (context_granted context.now) in
         let b = bexp_view inner.now in OnOk result (next.new ≡ next.old + (m.extra u (columns_in b) + m.more u + numbers b s m u)) }
 {
     let members = first_member(alloc, tie)?;
@@ -157,9 +157,9 @@ fn with_guard<C: Counted>(
     members: PredList,
     next: &mut u64,
 ) -> Result<PredList, Memory>
-    ensures members { let m = C.mode (context_schema context.now) (context_rights context.now) in
+    ensures members { let m = C.mode (context_schema context.now) (context_granted context.now) in
         IfOk result (λ all. map pred_view all.items ≡ map pred_view members.items ++ with_member (m.guard u n next.old) []) }
-    ensures numbers { let m = C.mode (context_schema context.now) (context_rights context.now) in OnOk result (next.new ≡ next.old + m.more u) }
+    ensures numbers { let m = C.mode (context_schema context.now) (context_granted context.now) in OnOk result (next.new ≡ next.old + m.more u) }
 {
     let guard = counted.condition(alloc, context, u, n, next)?;
     with_member(members, guard)
@@ -193,10 +193,10 @@ fn predicates<C: Counted>(
     bexps: &BexpList,
     next: &mut u64,
 ) -> Result<PredList, Memory>
-    ensures predicates { let s = context_schema context.now in let m = C.mode s (context_rights context.now) in let bs = bexps_of (map bexp_view bexps.now.items) in
+    ensures predicates { let s = context_schema context.now in let m = C.mode s (context_granted context.now) in let bs = bexps_of (map bexp_view bexps.now.items) in
         IfOk result (λ preds. map pred_view preds.items ≡ predicates bs s m (look_in places.now (table s t).columns p) t p next.old) }
     ensures numbers { let s = context_schema context.now in let bs = bexps_of (map bexp_view bexps.now.items) in
-        OnOk result (next.new ≡ next.old + numbers_all bs s (C.mode s (context_rights context.now)) t) }
+        OnOk result (next.new ≡ next.old + numbers_all bs s (C.mode s (context_granted context.now)) t) }
 {
     let mut preds = Vec::new(alloc);
     for bexp in bexps {
@@ -228,8 +228,8 @@ pub fn filter_predicate(
     number: u64,
     next: &mut u64,
 ) -> Result<Pred, Memory>
-    ensures predicate { IfOk result (λ p. pred_view p ≡ filter_predicate (context_schema context.now) (context_rights context.now) t number next.old) }
-    ensures numbers { OnOk result (next.new ≡ next.old + filter_numbers (context_schema context.now) (context_rights context.now) t) }
+    ensures predicate { IfOk result (λ p. pred_view p ≡ filter_predicate (context_schema context.now) (context_granted context.now) t number next.old) }
+    ensures numbers { OnOk result (next.new ≡ next.old + filter_numbers (context_schema context.now) (context_granted context.now) t) }
 {
     match context.granted(t) {
         Some(granted) => own_predicate(alloc, context, t, number, &granted.filter, next),
@@ -246,9 +246,9 @@ pub fn row_members(
     tie: Pred,
     next: &mut u64,
 ) -> Result<PredList, Memory>
-    ensures members { let s = context_schema context.now in let g = context_rights context.now in
+    ensures members { let s = context_schema context.now in let g = context_granted context.now in
         IfOk result (λ all. map pred_view all.items ≡ with_member (pred_view tie) (with_member (filter_predicate s g t number next.old) [])) }
-    ensures numbers { OnOk result (next.new ≡ next.old + filter_numbers (context_schema context.now) (context_rights context.now) t) }
+    ensures numbers { OnOk result (next.new ≡ next.old + filter_numbers (context_schema context.now) (context_granted context.now) t) }
 {
     let members = first_member(alloc, tie)?;
     let filter = filter_predicate(alloc, context, t, number, next)?;

@@ -9,8 +9,8 @@ use Rattle.hq_compile_tables.specs.declared.context.Granted.{Granted}
 use Rattle.hq_compile_tables.specs.declared.context.Context.{Context}
 
 -- what these entries grant: nothing of a table without one
-abbrev pub rights_in : List Granted → GrantedTables
-rights_in gs = record {
+abbrev pub granted_in : List Granted → GrantedTables
+granted_in gs = record {
   filter = λ t. unwrap_or (option_map (λ g. bexp_view g.filter) (find (λ g. g.table == t) gs)) never;
   limit = λ t. option_and_then (λ g. g.limit) (find (λ g. g.table == t) gs);
   masks = λ t. unwrap_or (option_map (λ g. map mask_view g.masks.items) (find (λ g. g.table == t) gs)) [];
@@ -21,5 +21,5 @@ abbrev pub context_schema : Context → Schema
 context_schema x = scope_schema x.scope
 
 -- what is granted in it
-abbrev pub context_rights : Context → GrantedTables
-context_rights x = rights_in x.granted.now
+abbrev pub context_granted : Context → GrantedTables
+context_granted x = granted_in x.granted.now

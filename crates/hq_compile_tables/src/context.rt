@@ -28,7 +28,7 @@ impl<'a> Context<'a> {
     ghost use Rattle.std.specs.Prelude.{◌≡◌, ◌==◌, find, map, option_copied};
     ghost use Rattle.hq_model.specs.PermView.{mask_view};
     ghost use Rattle.hq_model.specs.Schema.{table, rel};
-    ghost use Rattle.hq_compile_tables.specs.Contexts.{context_schema, context_rights};
+    ghost use Rattle.hq_compile_tables.specs.Contexts.{context_schema, context_granted};
 
     /// The columns of a table; none beyond the catalog.
     pub fn columns(&self, t: TableId) -> &'a [Column]
@@ -79,7 +79,7 @@ impl<'a> Context<'a> {
 
     /// The masks of a table's columns, in column order; none where nothing is granted of the table.
     pub fn masks(&self, t: TableId) -> &'a [Mask]
-        ensures { map mask_view result.now ≡ (context_rights self.now).masks t }
+        ensures { map mask_view result.now ≡ (context_granted self.now).masks t }
     {
         match self.granted(t) {
             Some(granted) => granted.masks.as_slice(),

@@ -1,7 +1,7 @@
 //! The most rows that are selected of a table.
 ghost use Rattle.std.specs.Prelude.{◌≡◌};
 ghost use Rattle.hq_model.specs.Selected.{smaller};
-ghost use Rattle.hq_compile_tables.specs.Contexts.{context_rights};
+ghost use Rattle.hq_compile_tables.specs.Contexts.{context_granted};
 ghost use Rattle.hq_compile_tables.specs.Limits.{row_limit};
 
 use crate::context::Context;
@@ -39,7 +39,7 @@ fn smaller(own: Option<u32>, permission: Option<u64>) -> Option<u64>
 
 // The permission's limit on the rows of a list.
 fn permission_limit(context: &Context, t: TableId) -> Option<u64>
-    ensures { result ≡ (context_rights context.now).limit t }
+    ensures { result ≡ (context_granted context.now).limit t }
 {
     match context.granted(t) {
         Some(granted) => granted.limit,
@@ -49,7 +49,7 @@ fn permission_limit(context: &Context, t: TableId) -> Option<u64>
 
 /// The most rows of table t, by the request's own limit and for a list also the permission's, which is none on what an aggregate is over.
 pub fn row_limit(context: &Context, t: TableId, rows: RowUse, own: Option<u32>) -> Option<u64>
-    ensures { result ≡ row_limit (context_rights context.now) t rows own }
+    ensures { result ≡ row_limit (context_granted context.now) t rows own }
 {
     match rows {
         RowUse::List => smaller(own, permission_limit(context, t)),

@@ -4,7 +4,7 @@ ghost use Rattle.hq_model.specs.Bexp.{bexp_view};
 ghost use Rattle.hq_sql_tree.specs.View.{pred_view};
 ghost use Rattle.hq_translation.specs.Masks.{filter_predicate};
 ghost use Rattle.hq_translation.specs.Predicates.{own_numbers, own_predicate};
-ghost use Rattle.hq_translation.specs.GrantedTables.{rights_of};
+ghost use Rattle.hq_translation.specs.GrantedTables.{granted_of};
 ghost use Rattle.hq_confine_uses.specs.Views.{rules_schema, rules_grants};
 
 use hq_base::{List, Memory};
@@ -43,7 +43,7 @@ pub(crate) fn own_condition(
 
 /// The filter of table `t` as a condition: never true where nothing is granted of the table.
 pub(crate) fn filter_condition(alloc: Global, rules: &Rules<'_>, t: usize) -> Result<Pred, Memory>
-    ensures { IfOk result (λ p. pred_view p ≡ filter_predicate (rules_schema rules.now) (rights_of (rules_grants rules.now)) t 0 1) }
+    ensures { IfOk result (λ p. pred_view p ≡ filter_predicate (rules_schema rules.now) (granted_of (rules_grants rules.now)) t 0 1) }
 {
     match rules.grant(t) {
         Some(granted) => own_condition(alloc, rules, t, &granted.filter),

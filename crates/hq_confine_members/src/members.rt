@@ -1,4 +1,4 @@
-//! Conjuncts that a session's rights ask for, among those of a WHERE.
+//! Conjuncts that what a session is granted asks for, among those of a WHERE.
 ghost use Rattle.std.specs.Prelude.{◌≡◌};
 ghost use Rattle.std.specs.List.{list_all, list_any};
 ghost use Rattle.hq_sql_tree.specs.View.{pred_view};

@@ -5,7 +5,7 @@ use Rattle.hq_model.specs.Schema.{Schema, rel}
 use Rattle.hq_translation.specs.Looks.{Look, ColumnName, cell_at, is_used}
 use Rattle.hq_translation.specs.Masks.{extra, shown_look}
 use Rattle.hq_translation.specs.Predicates.{link}
-use Rattle.hq_translation.specs.GrantedTables.{GrantedTables, rights_of}
+use Rattle.hq_translation.specs.GrantedTables.{GrantedTables, granted_of}
 use Rattle.hq_translation.specs.Selects.{behind_filter}
 use Rattle.hq_translation.specs.Sorts.{last_used, sort_place, sort_numbers, sort_joins}
 use Rattle.hq_translation.proofs.Names.{used_one}
@@ -43,22 +43,22 @@ module _ (s : Schema) (g : Grants) where
   PlainAt final p = is_plain g (origin_at s final p.alias p.name) ≡ true
 
   -- what is plain behind an alias's masks stays so
-  later : (at final : Shapes) (n behind : ℕ) (cs : List ℕ) (far c : ℕ) → (b : n + 1 + extra s (rights_of g) far cs ≤ behind)
-      → behind ≤ 2 ^ 64 → Grows behind at final → Shows s g at (shown_look s (rights_of g) far cs n) cs → is_used c cs ≡ true
-      → PlainAt final (shown_look s (rights_of g) far cs n c)
+  later : (at final : Shapes) (n behind : ℕ) (cs : List ℕ) (far c : ℕ) → (b : n + 1 + extra s (granted_of g) far cs ≤ behind)
+      → behind ≤ 2 ^ 64 → Grows behind at final → Shows s g at (shown_look s (granted_of g) far cs n) cs → is_used c cs ≡ true
+      → PlainAt final (shown_look s (granted_of g) far cs n c)
   later at final n behind cs far c le bound grown shown used =
-      shows_behind s g at final behind (shown_look s (rights_of g) far cs n) cs grown
-      (looks_under_later (n + 1 + extra s (rights_of g) far cs) behind (shown_look s (rights_of g) far cs n) le
+      shows_behind s g at final behind (shown_look s (granted_of g) far cs n) cs grown
+      (looks_under_later (n + 1 + extra s (granted_of g) far cs) behind (shown_look s (granted_of g) far cs n) le
       (shown_under s g far n cs (omega (arith, le, bound))))
       shown c used
 
-  pub chain_clean : (rs : List ℕ) (scope : Shapes) (t p n c : ℕ) (look : Look) → AllowedChain rs s g t c → Scans scope p t → p < n → n + sort_numbers rs s (rights_of g) t c ≤ 2 ^ 64
+  pub chain_clean : (rs : List ℕ) (scope : Shapes) (t p n c : ℕ) (look : Look) → AllowedChain rs s g t c → Scans scope p t → p < n → n + sort_numbers rs s (granted_of g) t c ≤ 2 ^ 64
       → ((final : Shapes) → Grows n scope final → is_used c (last_used rs c) ≡ true → PlainAt final (look c))
-      → Joined s g scope n (n + sort_numbers rs s (rights_of g) t c) (sort_joins rs s (rights_of g) t p n c) (λ final. PlainAt final (sort_place false rs s look t p n c))
+      → Joined s g scope n (n + sort_numbers rs s (granted_of g) t c) (sort_joins rs s (granted_of g) t p n c) (λ final. PlainAt final (sort_place false rs s look t p n c))
   chain_clean [] scope t p n c look f own lt bound here =
       joined_none s g scope n (n + 0) (λ final. PlainAt final (look c)) (λ final grown. here final (λ a u. grown a (under_later n (n + 0) a (omega arith) u)) (used_one c))
   chain_clean (r ∷ rs) scope t p n c look f own lt bound here =
-      let R : GrantedTables = rights_of g in
+      let R : GrantedTables = granted_of g in
       let far : ℕ = (rel s t r).remote in
       let cs : List ℕ = last_used rs c in
       let behind : ℕ = behind_filter s R far cs n in

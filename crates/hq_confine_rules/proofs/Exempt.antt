@@ -17,7 +17,7 @@ use Rattle.hq_translation.specs.Looks.{name_of, own_look, compared_at, is_used}
 use Rattle.hq_translation.specs.Masks.{value_place, mask_numbers, mask_select, mask_joins, mask_look, used_masks, extra, masks, shown_look, filter_numbers, filter_predicate}
 use Rattle.hq_translation.specs.Names.{table_alias, join_alias, value_name}
 use Rattle.hq_translation.specs.Predicates.{link_members, link, own_numbers, own_predicate}
-use Rattle.hq_translation.specs.GrantedTables.{rights_of}
+use Rattle.hq_translation.specs.GrantedTables.{granted_of}
 use Rattle.hq_translation.proofs.Names.{same_text, table_aliases_differ}
 use Rattle.hq_translation.proofs.Scopes.{Under, under_join, under_later, LooksUnder, looks_under_later, own_under}
 use Rattle.hq_confine_rules.specs.Conjuncts.{opened}
@@ -61,23 +61,23 @@ module _ (s : Schema) (g : Grants) where
 
   -- ---- filters
 
-  pub filter_stands : (t n from : ℕ) (xs ys : List PredTree) → n < from → from + filter_numbers s (rights_of g) t ≤ 2 ^ 64
-      → stand_among (xs ++ (opened (filter_predicate s (rights_of g) t n from) ++ ys)) (filter_conjuncts s g t) (table_alias n) ≡ true
-  filter_stands t n from xs ys lt bound = all_among (table_alias n) (filter_conjuncts s g t) (opened (filter_predicate s (rights_of g) t n from)) xs ys (written (grant g t).filter t n from lt bound)
+  pub filter_stands : (t n from : ℕ) (xs ys : List PredTree) → n < from → from + filter_numbers s (granted_of g) t ≤ 2 ^ 64
+      → stand_among (xs ++ (opened (filter_predicate s (granted_of g) t n from) ++ ys)) (filter_conjuncts s g t) (table_alias n) ≡ true
+  filter_stands t n from xs ys lt bound = all_among (table_alias n) (filter_conjuncts s g t) (opened (filter_predicate s (granted_of g) t n from)) xs ys (written (grant g t).filter t n from lt bound)
 
   exempt_each : (P Q : PredTree → Type 0) → ((p : PredTree) → P p → Q p) → (ps : List PredTree) → Each P ps → Each Q ps
   exempt_each P Q f [] h = tt
   exempt_each P Q f (p ∷ ps) h = (f p h.0, exempt_each P Q f ps h.1)
 
-  pub filter_exempt : (t n from : ℕ) (scope : Shapes) (all : List PredTree) → Ready s g t → n < from → from + filter_numbers s (rights_of g) t ≤ 2 ^ 64
-      → Each (λ c. is_exempt s g scope all (tree.table (table s t).schema (table s t).name (table_alias n)) c ≡ true) (opened (filter_predicate s (rights_of g) t n from))
+  pub filter_exempt : (t n from : ℕ) (scope : Shapes) (all : List PredTree) → Ready s g t → n < from → from + filter_numbers s (granted_of g) t ≤ 2 ^ 64
+      → Each (λ c. is_exempt s g scope all (tree.table (table s t).schema (table s t).name (table_alias n)) c ≡ true) (opened (filter_predicate s (granted_of g) t n from))
   filter_exempt t n from scope all ready lt bound =
       exempt_each (λ c. is_one_of (filter_conjuncts s g t) (table_alias n) c ≡ true) (λ c. is_exempt s g scope all (tree.table (table s t).schema (table s t).name (table_alias n)) c ≡ true)
       (λ c h. or_left (is_one_of (filter_conjuncts s g (table_place s (table s t).schema (table s t).name)) (table_alias n) c)
       (is_linking s scope all (table_place s (table s t).schema (table s t).name) (table_alias n) (equation c))
       (ap (λ u. is_one_of (filter_conjuncts s g u) (table_alias n) c) ready.place ∙ h))
-      (opened (filter_predicate s (rights_of g) t n from))
-      (each_one_of (table_alias n) (filter_conjuncts s g t) (opened (filter_predicate s (rights_of g) t n from))
+      (opened (filter_predicate s (granted_of g) t n from))
+      (each_one_of (table_alias n) (filter_conjuncts s g t) (opened (filter_predicate s (granted_of g) t n from))
       (written (grant g t).filter t n from lt bound))
 
   -- ---- links
@@ -238,14 +238,14 @@ module _ (s : Schema) (g : Grants) where
       go (m.column == c) (is_used m.column cs) refl refl h
 
   -- those of an alias: what is used of its columns is plain behind them
-  pub shown_clean : (u n : ℕ) (cs : List ℕ) (scope : Shapes) → Ready s g u → Permits s g u cs → Scans scope n u → n + 1 + extra s (rights_of g) u cs ≤ 2 ^ 64
-      → Joined s g scope (n + 1) (n + 1 + extra s (rights_of g) u cs) (masks s (rights_of g) u cs n) (λ final. Shows s g final (shown_look s (rights_of g) u cs n) cs)
+  pub shown_clean : (u n : ℕ) (cs : List ℕ) (scope : Shapes) → Ready s g u → Permits s g u cs → Scans scope n u → n + 1 + extra s (granted_of g) u cs ≤ 2 ^ 64
+      → Joined s g scope (n + 1) (n + 1 + extra s (granted_of g) u cs) (masks s (granted_of g) u cs n) (λ final. Shows s g final (shown_look s (granted_of g) u cs n) cs)
   shown_clean u n cs scope ready permits k bound =
-      let ms : List Mask = used_masks (rights_of g) u cs in
-      joined_as s g scope (n + 1) (n + 1 + extra s (rights_of g) u cs) (n + 1 + extra s (rights_of g) u cs) (masks s (rights_of g) u cs n)
-      (λ final. Plain final u n (n + 1) ms) (λ final. Shows s g final (shown_look s (rights_of g) u cs n) cs) (omega arith)
+      let ms : List Mask = used_masks (granted_of g) u cs in
+      joined_as s g scope (n + 1) (n + 1 + extra s (granted_of g) u cs) (n + 1 + extra s (granted_of g) u cs) (masks s (granted_of g) u cs n)
+      (λ final. Plain final u n (n + 1) ms) (λ final. Shows s g final (shown_look s (granted_of g) u cs n) cs) (omega arith)
       (λ final h c used. h c (permits c used).0 (permits c used).1 (λ is. used_mask c cs used (grant g u).masks is))
       (masks_clean ms u n (n + 1) scope ready (each_used (IsMask s g u) (λ m. is_used m.column cs) (grant g u).masks ready.masks) k (omega arith) bound)
 
-  pub shown_under : (u n : ℕ) (cs : List ℕ) → n + 1 + extra s (rights_of g) u cs ≤ 2 ^ 64 → LooksUnder (n + 1 + extra s (rights_of g) u cs) (shown_look s (rights_of g) u cs n)
-  shown_under u n cs bound = masked_under (used_masks (rights_of g) u cs) u n (n + 1) (omega arith) bound
+  pub shown_under : (u n : ℕ) (cs : List ℕ) → n + 1 + extra s (granted_of g) u cs ≤ 2 ^ 64 → LooksUnder (n + 1 + extra s (granted_of g) u cs) (shown_look s (granted_of g) u cs n)
+  shown_under u n cs bound = masked_under (used_masks (granted_of g) u cs) u n (n + 1) (omega arith) bound

@@ -23,7 +23,7 @@ use Rattle.hq_translation.specs.Looks.{Look, own_look, type_in, cell_at, shown_a
 use Rattle.hq_translation.specs.Masks.{value_place, extra, shown_look}
 use Rattle.hq_translation.specs.Names.{table_alias, join_alias, value_name}
 use Rattle.hq_translation.specs.Predicates.{link}
-use Rattle.hq_translation.specs.GrantedTables.{GrantedTables, rights_of}
+use Rattle.hq_translation.specs.GrantedTables.{GrantedTables, granted_of}
 use Rattle.hq_translation.specs.Selects.{behind_filter}
 use Rattle.hq_translation.specs.Statement.{statement}
 use Rattle.hq_translation.proofs.Names.{same_text, used_one, used_left, used_right}
@@ -42,7 +42,7 @@ use Rattle.hq_confine_rules.proofs.Wanted.{from_of, Behind, IsTied, first_clean}
 
 module _ (s : Schema) (g : Grants) where
   abbrev R : GrantedTables
-  R = rights_of g
+  R = granted_of g
 
   -- where a table has relationships, the alias of number p shows it
   abbrev pub RowAt : Shapes → (p t : ℕ) → Type 0

@@ -11,7 +11,7 @@ use Rattle.hq_sql_tree.specs.Tree.{OrderTree, OrderTrees, OutTree, orders_of}
 use Rattle.hq_translation.specs.Fine.{Has}
 use Rattle.hq_translation.specs.Looks.{Look, name_of}
 use Rattle.hq_translation.specs.Names.{table_alias, fold_alias, key_name}
-use Rattle.hq_translation.specs.GrantedTables.{rights_of}
+use Rattle.hq_translation.specs.GrantedTables.{granted_of}
 use Rattle.hq_translation.specs.Sorts.{Sort, shown_sorts, own_sorts, sort_form, sort_numbers, key_outputs, output_orders}
 use Rattle.hq_translation.proofs.Names.{same_text, key_names_differ}
 use Rattle.hq_confine_rules.specs.Origins.{Origin, of, Shapes, outputs, shape_at, origin_in, origin_at, behind, output_named, output_origins}
@@ -43,7 +43,7 @@ each_own (c ∷ cs) =
 module _ (s : Schema) (g : Grants) (t p : ℕ) (look : Look) (final : Shapes) where
   -- the outputs of the rows' sort keys
   abbrev pub key_outs : List Sort → (m i : ℕ) → List OutTree
-  key_outs ks m i = key_outputs ks s (rights_of g) look t p m i
+  key_outs ks m i = key_outputs ks s (granted_of g) look t p m i
 
   -- they are without faults where the entries are plain, and the alias shows the table
   own_outs : Ready s g t → Scans final p t → (cs : List ℕ) (m i : ℕ) → Each (Has s t) cs → Each (λ c. is_key s t c ≡ true) cs → outs_faults s g final (key_outs (own_sorts cs) m i) ≡ []
@@ -58,7 +58,7 @@ module _ (s : Schema) (g : Grants) (t p : ℕ) (look : Look) (final : Shapes) wh
   keys_clean ready own [] cs m i e h k = own_outs ready own cs m i h k
   keys_clean ready own (x ∷ es) cs m i e h k =
       none _ _ (plain_out s g final (place_at s g t p look x m) e.0)
-      (keys_clean ready own es cs (m + sort_numbers x.through s (rights_of g) t x.column) (i + 1) e.1 h k)
+      (keys_clean ready own es cs (m + sort_numbers x.through s (granted_of g) t x.column) (i + 1) e.1 h k)
 
   -- ---- the fold of number n, whose alias shows these outputs
 
@@ -70,7 +70,7 @@ module _ (s : Schema) (g : Grants) (t p : ℕ) (look : Look) (final : Shapes) wh
     abbrev Rest : List Sort → (m i : ℕ) → Type 0
     Rest ks m i = (k : ℕ) → i ≤ k → k < 2 ^ 64 → output_named all (key_name k) ≡ output_named (output_origins s final (key_outs ks m i)) (key_name k)
 
-    rest_next : (x : Sort) (ks : List Sort) (m i : ℕ) → Rest (x ∷ ks) m i → Rest ks (m + sort_numbers x.key.through s (rights_of g) t x.key.column) (i + 1)
+    rest_next : (x : Sort) (ks : List Sort) (m i : ℕ) → Rest (x ∷ ks) m i → Rest ks (m + sort_numbers x.key.through s (granted_of g) t x.key.column) (i + 1)
     rest_next x ks m i r k le lt =
         let other : bytes_eq (key_name i) (key_name k) ≡ false = key_names_differ i k (omega (arith, le)) lt in
         r k (omega (arith, le)) lt ∙ rw other refl
@@ -100,7 +100,7 @@ module _ (s : Schema) (g : Grants) (t p : ℕ) (look : Look) (final : Shapes) wh
     entries_passed [] cs m i r e le = (tt, r)
     entries_passed (k ∷ es) cs m i r e le =
         let x : Sort = record { own = false; key = k } in
-        let later = entries_passed es cs (m + sort_numbers k.through s (rights_of g) t k.column) (i + 1) (rest_next x (shown_sorts es (own_sorts cs)) m i r) e.1 (omega (arith, le)) in
+        let later = entries_passed es cs (m + sort_numbers k.through s (granted_of g) t k.column) (i + 1) (rest_next x (shown_sorts es (own_sorts cs)) m i r) e.1 (omega (arith, le)) in
         let here : output_named all (key_name i) ≡ origin_at s final (place_at s g t p look k m).alias (place_at s g t p look k m).name =
         r i (omega arith) (omega (arith, le)) ∙ rw (same_text (key_name i)) refl in
         let plain : is_plain g (origin_at s inner (fold_alias n) (key_name i)) ≡ true =

@@ -12,7 +12,7 @@ use Rattle.hq_translation.specs.Looks.{Look, type_in, compared_form}
 use Rattle.hq_translation.specs.Masks.{extra, masks, shown_look, filter_predicate, where_mode}
 use Rattle.hq_translation.specs.Names.{table_alias}
 use Rattle.hq_translation.specs.Predicates.{columns_in, predicate}
-use Rattle.hq_translation.specs.GrantedTables.{GrantedTables, rights_of}
+use Rattle.hq_translation.specs.GrantedTables.{GrantedTables, granted_of}
 use Rattle.hq_translation.specs.Selects.{behind_filter}
 use Rattle.hq_translation.specs.Sorts.{Sort, used_sorts, sorts_joins, orders, own_sorts}
 use Rattle.hq_translation.proofs.Names.{used_left, used_right, used_one}
@@ -44,19 +44,19 @@ module _ (s : Schema) (g : Grants) where
   abbrev pub ListSeen : (scope : Shapes) → (u n : ℕ) → ListArguments → (more : List ℕ) → (V : Shapes → Type 0) → Shapes → Type 0
   ListSeen scope u n a more V final =
       Behind s g scope u n (list_used s u a more) final
-      × (EntriesPlain s g u n (shown_look s (rights_of g) u (list_used s u a more) n) final (entries (once a)) (sorts_from s (rights_of g) u (list_used s u a more) a n) × V final)
+      × (EntriesPlain s g u n (shown_look s (granted_of g) u (list_used s u a more) n) final (entries (once a)) (sorts_from s (granted_of g) u (list_used s u a more) a n) × V final)
 
   -- the joins of a list of table u at the alias of number n
   abbrev pub all_joins : (u n : ℕ) → ListArguments → (more : List ℕ) → List JoinTree → List JoinTree
   all_joins u n a more J =
-      masks s (rights_of g) u (list_used s u a more) n ++ (sorts_joins (list_sorts s u a) s (rights_of g) u n (sorts_from s (rights_of g) u (list_used s u a more) a n) ++ J)
+      masks s (granted_of g) u (list_used s u a more) n ++ (sorts_joins (list_sorts s u a) s (granted_of g) u n (sorts_from s (granted_of g) u (list_used s u a more) a n) ++ J)
 
   pub list_joined : (scope : Shapes) (u n m : ℕ) (a : ListArguments) (more : List ℕ) (J : List JoinTree) (V : Shapes → Type 0) → Ready s g u → Permits s g u (list_used s u a more)
-      → Each (λ k. AllowedSort s g u (record { own = false; key = k })) (entries (once a)) → children_from s (rights_of g) u (list_used s u a more) a n ≤ m → m ≤ 2 ^ 64
-      → ((here : Shapes) → Behind s g scope u n (list_used s u a more) here → Joined s g here (children_from s (rights_of g) u (list_used s u a more) a n) m J V)
+      → Each (λ k. AllowedSort s g u (record { own = false; key = k })) (entries (once a)) → children_from s (granted_of g) u (list_used s u a more) a n ≤ m → m ≤ 2 ^ 64
+      → ((here : Shapes) → Behind s g scope u n (list_used s u a more) here → Joined s g here (children_from s (granted_of g) u (list_used s u a more) a n) m J V)
       → Joined s g (with_scan s g u n scope) (n + 1) m (all_joins u n a more J) (ListSeen scope u n a more V)
   list_joined scope u n m a more J V ready permits sorted le bound kids =
-      let R : GrantedTables = rights_of g in
+      let R : GrantedTables = granted_of g in
       let cs : List ℕ = list_used s u a more in
       let es : List SortKey = entries (once a) in
       let ks : List Sort = list_sorts s u a in
@@ -86,17 +86,17 @@ module _ (s : Schema) (g : Grants) where
   pub list_clean : (scope : Shapes) (counts : Bool) (u n m : ℕ) (a : ListArguments) (more : List ℕ) (tie : PredTree) (limit : Option ℕ)
       (outs : List OutTree) (J : List JoinTree) (V : Shapes → Type 0)
       → Ready s g u → Permits s g u (list_used s u a more)
-      → Allowed a.wanted s g u → Each (λ k. AllowedSort s g u (record { own = false; key = k })) (entries (once a)) → children_from s (rights_of g) u (list_used s u a more) a n ≤ m → m ≤ 2 ^ 64
+      → Allowed a.wanted s g u → Each (λ k. AllowedSort s g u (record { own = false; key = k })) (entries (once a)) → children_from s (granted_of g) u (list_used s u a more) a n ≤ m → m ≤ 2 ^ 64
       → ((final : Shapes) → Behind s g scope u n (list_used s u a more) final → IsTied s g final u n tie)
-      → ((here : Shapes) → Behind s g scope u n (list_used s u a more) here → Joined s g here (children_from s (rights_of g) u (list_used s u a more) a n) m J V)
+      → ((here : Shapes) → Behind s g scope u n (list_used s u a more) here → Joined s g here (children_from s (granted_of g) u (list_used s u a more) a n) m J V)
       →
       ((final : Shapes) → Behind s g scope u n (list_used s u a more) final
-      → EntriesPlain s g u n (shown_look s (rights_of g) u (list_used s u a more) n) final (entries (once a))
-      (sorts_from s (rights_of g) u (list_used s u a more) a n)
+      → EntriesPlain s g u n (shown_look s (granted_of g) u (list_used s u a more) n) final (entries (once a))
+      (sorts_from s (granted_of g) u (list_used s u a more) a n)
       → V final → outs_faults s g final outs ≡ [])
-      → select_faults s g scope counts (list_rows s (rights_of g) u (list_used s u a more) a n tie limit outs J) ≡ []
+      → select_faults s g scope counts (list_rows s (granted_of g) u (list_used s u a more) a n tie limit outs J) ≡ []
   list_clean scope counts u n m a more tie limit outs J V ready permits wanted sorted le bound tied kids shown =
-      let R : GrantedTables = rights_of g in
+      let R : GrantedTables = granted_of g in
       let cs : List ℕ = list_used s u a more in
       let es : List SortKey = entries (once a) in
       let ks : List Sort = list_sorts s u a in

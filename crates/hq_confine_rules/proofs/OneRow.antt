@@ -21,7 +21,7 @@ use Rattle.hq_translation.specs.Looks.{Look, type_in, compared_form}
 use Rattle.hq_translation.specs.Masks.{value_output, shown_look}
 use Rattle.hq_translation.specs.Names.{table_alias, fold_alias, value_name, needed_name, unit_name}
 use Rattle.hq_translation.specs.Predicates.{columns_in}
-use Rattle.hq_translation.specs.GrantedTables.{GrantedTables, rights_of}
+use Rattle.hq_translation.specs.GrantedTables.{GrantedTables, granted_of}
 use Rattle.hq_translation.specs.Sorts.{used_sorts, output_orders}
 use Rattle.hq_translation.proofs.Names.{same_text, value_is_no_key, used_one, used_left, used_right}
 use Rattle.hq_confine_rules.specs.Conjuncts.{conjuncts}
@@ -75,10 +75,10 @@ module _ (s : Schema) (g : Grants) where
 
   -- the columns that a list uses for its outputs
   pub shows_more : (final : Shapes) (u n : ℕ) (a : ListArguments) (more : List ℕ)
-      → Shows s g final (shown_look s (rights_of g) u (list_used s u a more) n) (list_used s u a more)
-      → Shows s g final (shown_look s (rights_of g) u (list_used s u a more) n) more
+      → Shows s g final (shown_look s (granted_of g) u (list_used s u a more) n) (list_used s u a more)
+      → Shows s g final (shown_look s (granted_of g) u (list_used s u a more) n) more
   shows_more final u n a more k =
-      let look : Look = shown_look s (rights_of g) u (list_used s u a more) n in
+      let look : Look = shown_look s (granted_of g) u (list_used s u a more) n in
       shows_right s g final look (once a).distinct more
       (shows_right s g final look (used_sorts (list_sorts s u a)) ((once a).distinct ++ more)
       (shows_right s g final look (columns_in a.wanted) (used_sorts (list_sorts s u a) ++ ((once a).distinct ++ more)) k))
@@ -87,13 +87,13 @@ module _ (s : Schema) (g : Grants) where
   pub list_first : (scope : Shapes) (u n m : ℕ) (a : ListArguments) (more : List ℕ) (tie : PredTree) (values : List PairTree)
       (J : List JoinTree) (V : Shapes → Type 0)
       → Ready s g u → AllowedList s g u a more
-      → children_from s (rights_of g) u (list_used s u a more) a n ≤ m → m ≤ 2 ^ 64
+      → children_from s (granted_of g) u (list_used s u a more) a n ≤ m → m ≤ 2 ^ 64
       → ((final : Shapes) → Behind s g scope u n (list_used s u a more) final → IsTied s g final u n tie)
-      → ((here : Shapes) → Behind s g scope u n (list_used s u a more) here → Joined s g here (children_from s (rights_of g) u (list_used s u a more) a n) m J V)
+      → ((here : Shapes) → Behind s g scope u n (list_used s u a more) here → Joined s g here (children_from s (granted_of g) u (list_used s u a more) a n) m J V)
       → ((final : Shapes) → V final → pairs_faults s g final (pairs_of values) ≡ [])
-      → First s g scope (list_select s (rights_of g) u (list_used s u a more) a n tie values J)
+      → First s g scope (list_select s (granted_of g) u (list_used s u a more) a n tie values J)
   list_first scope u n m a more tie values J V ready f le bound tied kids valued =
-      let R : GrantedTables = rights_of g in
+      let R : GrantedTables = granted_of g in
       let cs : List ℕ = list_used s u a more in
       let es : List SortKey = entries (once a) in
       let look : Look = shown_look s R u cs n in
@@ -196,10 +196,10 @@ module _ (s : Schema) (g : Grants) where
 
   -- an aggregate over rows of table u at the alias of number n
   pub folded_first : (scope : Shapes) (fs : List KeyedAggField) (u n : ℕ) (a : ListArguments) (tie : PredTree) → Ready s g u
-      → AllowedList s g u a (needed fs []) → children_from s (rights_of g) u (summary_used s u a fs) a n ≤ 2 ^ 64
-      → ((final : Shapes) → Behind s g scope u n (summary_used s u a fs) final → IsTied s g final u n tie) → First s g scope (folded_select fs s (rights_of g) u a n tie)
+      → AllowedList s g u a (needed fs []) → children_from s (granted_of g) u (summary_used s u a fs) a n ≤ 2 ^ 64
+      → ((final : Shapes) → Behind s g scope u n (summary_used s u a fs) final → IsTied s g final u n tie) → First s g scope (folded_select fs s (granted_of g) u a n tie)
   folded_first scope fs u n a tie ready f bound tied =
-      let R : GrantedTables = rights_of g in
+      let R : GrantedTables = granted_of g in
       let more : List ℕ = needed fs [] in
       let cs : List ℕ = list_used s u a more in
       let look : Look = shown_look s R u cs n in

@@ -13,7 +13,7 @@ use Rattle.hq_sql_tree.specs.Tree.{FilterTree, PredTree}
 use Rattle.hq_sql_tree.specs.Meaning.{Scope, World, named_row, kept, truth_at, with_alias, nothing}
 use Rattle.hq_translation.specs.Masks.{filter_numbers, filter_predicate}
 use Rattle.hq_translation.specs.Names.{table_alias}
-use Rattle.hq_translation.specs.GrantedTables.{rights_of}
+use Rattle.hq_translation.specs.GrantedTables.{granted_of}
 use Rattle.hq_translation.proofs.Names.{same_text, equal_text, Narrow, shows_row}
 use Rattle.hq_translation.proofs.Predicates.{own_means}
 use Rattle.hq_translation.proofs.Sound.{Sound}
@@ -50,7 +50,7 @@ module _ (w : World) (e f : Scope) (alias : List ℕ) (same : f (table_alias 0) 
 
 -- where the WHERE of a scan of t is true and its conjuncts contain those of the filter, the filter is true of the scan's row
 pub only_permitted : (s : Schema) (g : Grants) (tables : List Table) (d : List (List Row)) → Sound s tables d
-    → (t : ℕ) (alias : List ℕ) (c : FilterTree) → 1 + filter_numbers s (rights_of g) t ≤ 2 ^ 64
+    → (t : ℕ) (alias : List ℕ) (c : FilterTree) → 1 + filter_numbers s (granted_of g) t ≤ 2 ^ 64
     → stand_among (conjuncts c) (filter_conjuncts s g t) alias ≡ true
     → (e : Scope) (row : Row) → Narrow s t row → e alias ≡ named_row (table s t).columns row
     → kept c (record { tables = tables; database = d }) e ≡ true → keeps (grant g t).filter s (all_of s d) t row ≡ true
@@ -59,6 +59,6 @@ only_permitted s g tables d sound t alias c bound stand e row narrow shows k =
     let f : Scope = with_alias nothing (table_alias 0) (named_row (table s t).columns row) in
     let own : f (table_alias 0) ≡ e alias = rw (same_text (table_alias 0)) (sym shows) in
     let all : list_all (is_so w e) (conjuncts c) ≡ true = sym (kept_conjuncts c w e) ∙ k in
-    let P : PredTree = filter_predicate s (rights_of g) t 0 1 in
+    let P : PredTree = filter_predicate s (granted_of g) t 0 1 in
     let is : is_true (truth_at P w f) ≡ true = true_opened P w f ∙ all_hold w e f alias own (conjuncts c) (filter_conjuncts s g t) stand all in
     sym (own_means s tables d sound (grant g t).filter t 0 1 f row (omega arith) bound (shows_row s nothing t 0 row (sound.differ t) narrow)) ∙ is

@@ -14,7 +14,7 @@ use Rattle.hq_translation.specs.Looks.{Look, tested_at, tested_form, compared_fo
 use Rattle.hq_translation.specs.Masks.{value_output, extra, masks, shown_look, filter_numbers, filter_predicate, where_mode}
 use Rattle.hq_translation.specs.Names.{table_alias, value_name, unit_name}
 use Rattle.hq_translation.specs.Predicates.{columns_in, columns_in_all, numbers, numbers_all, predicate, predicates, link}
-use Rattle.hq_translation.specs.GrantedTables.{GrantedTables, rights_of}
+use Rattle.hq_translation.specs.GrantedTables.{GrantedTables, granted_of}
 use Rattle.hq_translation.specs.Selects.{key_orders, filter_from, behind_filter, first_select}
 use Rattle.hq_translation.proofs.Names.{same_text, used_one, used_left, used_right, used_else}
 use Rattle.hq_translation.proofs.Scopes.{under_later, LooksUnder, looks_under_later}
@@ -71,11 +71,11 @@ module _ (s : Schema) (g : Grants) where
 
   mutual
     pub wanted_clean : (b : BexpTree) (look : Look) (t p n : ℕ) (scope : Shapes) → Allowed b s g t → Scans scope p t → p < n
-        → Shows s g scope look (columns_in b) → LooksUnder n look → n + numbers b s (where_mode s (rights_of g)) t ≤ 2 ^ 64
-        → IsClean s g scope (predicate b s (where_mode s (rights_of g)) look t p n)
+        → Shows s g scope look (columns_in b) → LooksUnder n look → n + numbers b s (where_mode s (granted_of g)) t ≤ 2 ^ 64
+        → IsClean s g scope (predicate b s (where_mode s (granted_of g)) look t p n)
     wanted_clean always look t p n scope f own lt k u bound = refl
-    wanted_clean (and_of bs) look t p n scope f own lt k u bound = and_clean s g scope (predicates bs s (where_mode s (rights_of g)) look t p n) (wanteds_clean bs look t p n scope f own lt k u bound)
-    wanted_clean (or_of bs) look t p n scope f own lt k u bound = or_clean s g scope (predicates bs s (where_mode s (rights_of g)) look t p n) (wanteds_clean bs look t p n scope f own lt k u bound)
+    wanted_clean (and_of bs) look t p n scope f own lt k u bound = and_clean s g scope (predicates bs s (where_mode s (granted_of g)) look t p n) (wanteds_clean bs look t p n scope f own lt k u bound)
+    wanted_clean (or_of bs) look t p n scope f own lt k u bound = or_clean s g scope (predicates bs s (where_mode s (granted_of g)) look t p n) (wanteds_clean bs look t p n scope f own lt k u bound)
     wanted_clean (not_of b) look t p n scope f own lt k u bound = wanted_clean b look t p n scope f own lt k u bound
     wanted_clean (test c tested vs negated) look t p n scope f own lt k u bound =
         test_clean s g scope (type_in (table s t).columns c) (tested_at (table s t).columns (look c) c tested) tested (operands_of vs)
@@ -83,7 +83,7 @@ module _ (s : Schema) (g : Grants) where
         (λ some. column_clean s g scope (look c).alias (look c).name (tested_form tested (type_in (table s t).columns c))
         (k c (used_else c (is_of_nothing tested (operands_of vs)) some)))
     wanted_clean (through r b) look t p n scope f own lt k u bound =
-        let R : GrantedTables = rights_of g in
+        let R : GrantedTables = granted_of g in
         let far : ℕ = (rel s t r).remote in
         let cs : List ℕ = columns_in b in
         let ready : Ready s g far = f.0.ready in
@@ -118,7 +118,7 @@ module _ (s : Schema) (g : Grants) where
         (ap (λ l. stand_among l (filter_conjuncts s g far) (table_alias n)) is ∙ stand) refl
         (subst (λ l. where_faults s g final (is_exempt s g final l (from_of far n)) (where_of (with_member L (with_member A (with_member B [])))) ≡ []) (sym is) kept) refl
     wanted_clean (exists_in u b) look t p n scope f own lt k v bound =
-        let R : GrantedTables = rights_of g in
+        let R : GrantedTables = granted_of g in
         let cs : List ℕ = columns_in b in
         let ready : Ready s g u = f.0 in
         let within : Shapes = with_scan u n scope in
@@ -149,11 +149,11 @@ module _ (s : Schema) (g : Grants) where
         (none _ _ (column_clean s g scope (look r).alias (look r).name (compared_form (type_in (table s t).columns r)) (k r (used_right r (l ∷ []) (r ∷ []) (used_one r)))) refl)
 
     wanteds_clean : (bs : BexpTrees) (look : Look) (t p n : ℕ) (scope : Shapes) → AllAllowed bs s g t → Scans scope p t → p < n
-        → Shows s g scope look (columns_in_all bs) → LooksUnder n look → n + numbers_all bs s (where_mode s (rights_of g)) t ≤ 2 ^ 64
-        → Each (IsClean s g scope) (predicates bs s (where_mode s (rights_of g)) look t p n)
+        → Shows s g scope look (columns_in_all bs) → LooksUnder n look → n + numbers_all bs s (where_mode s (granted_of g)) t ≤ 2 ^ 64
+        → Each (IsClean s g scope) (predicates bs s (where_mode s (granted_of g)) look t p n)
     wanteds_clean no_bexp look t p n scope f own lt k u bound = tt
     wanteds_clean (bexp b bs) look t p n scope f own lt k u bound =
-        let next : ℕ = n + numbers b s (where_mode s (rights_of g)) t in (
+        let next : ℕ = n + numbers b s (where_mode s (granted_of g)) t in (
           wanted_clean b look t p n scope f.0 own lt (shows_left s g scope look (columns_in b) (columns_in_all bs) k) u (omega arith),
           wanteds_clean bs look t p next scope f.1 own (omega arith) (shows_right s g scope look (columns_in b) (columns_in_all bs) k) (looks_under_later n next look (omega arith) u) (omega arith),
         )
@@ -189,16 +189,16 @@ module _ (s : Schema) (g : Grants) where
   -- the scope behind an alias and its masks
   pub record Behind (scope : Shapes) (u n : ℕ) (cs : List ℕ) (here : Shapes) : Type 0 where
     pub own : Scans here n u
-    pub shown : Shows s g here (shown_look s (rights_of g) u cs n) cs
+    pub shown : Shows s g here (shown_look s (granted_of g) u cs n) cs
     pub grows : Grows n scope here
 
   -- the joins of an alias: its masks, and others
-  pub alias_joins : (scope : Shapes) (u n m : ℕ) (cs : List ℕ) (J : List JoinTree) (V : Shapes → Type 0) → Ready s g u → Permits s g u cs → n + 1 + extra s (rights_of g) u cs ≤ m → m ≤ 2 ^ 64
-      → ((here : Shapes) → Behind scope u n cs here → Joined s g here (n + 1 + extra s (rights_of g) u cs) m J V)
-      → Joined s g (with_scan u n scope) (n + 1) m (masks s (rights_of g) u cs n ++ J) (λ final. Behind scope u n cs final × V final)
+  pub alias_joins : (scope : Shapes) (u n m : ℕ) (cs : List ℕ) (J : List JoinTree) (V : Shapes → Type 0) → Ready s g u → Permits s g u cs → n + 1 + extra s (granted_of g) u cs ≤ m → m ≤ 2 ^ 64
+      → ((here : Shapes) → Behind scope u n cs here → Joined s g here (n + 1 + extra s (granted_of g) u cs) m J V)
+      → Joined s g (with_scan u n scope) (n + 1) m (masks s (granted_of g) u cs n ++ J) (λ final. Behind scope u n cs final × V final)
   alias_joins scope u n m cs J V ready permits le bound kids =
       let within : Shapes = with_scan u n scope in
-      let mid : ℕ = n + 1 + extra s (rights_of g) u cs in
+      let mid : ℕ = n + 1 + extra s (granted_of g) u cs in
       let near : Scans within n u = scan_here u n scope ready in
       let first = shown_clean s g u n cs within ready permits near (omega arith) in
       let around : (final : Shapes) → Grows (n + 1) within final → Grows n scope final =
@@ -211,8 +211,8 @@ module _ (s : Schema) (g : Grants) where
       } in
       let rest = kids first.after behind in
       let both =
-      joined_then s g within (n + 1) mid m (masks s (rights_of g) u cs n) J
-      (λ final. Shows s g final (shown_look s (rights_of g) u cs n) cs) V (omega arith) (omega (arith, le)) first rest in
+      joined_then s g within (n + 1) mid m (masks s (granted_of g) u cs n) J
+      (λ final. Shows s g final (shown_look s (granted_of g) u cs n) cs) V (omega arith) (omega (arith, le)) first rest in
       record {
         after = both.after;
         clean = both.clean;
@@ -238,12 +238,12 @@ module _ (s : Schema) (g : Grants) where
 
   -- the first row of a table, its tie, its value and its joins given
   pub first_clean : (scope : Shapes) (u n m : ℕ) (cs : List ℕ) (tie : PredTree) (e : ExprTree) (J : List JoinTree) → Ready s g u
-      → Permits s g u cs → behind_filter s (rights_of g) u cs n ≤ m → m ≤ 2 ^ 64
+      → Permits s g u cs → behind_filter s (granted_of g) u cs n ≤ m → m ≤ 2 ^ 64
       → ((final : Shapes) → Behind scope u n cs final → IsTied final u n tie)
-      → ((here : Shapes) → Behind scope u n cs here → Joined s g here (behind_filter s (rights_of g) u cs n) m J (λ final. (out_faults s g final e ≡ []) × (is_plain g (origin s final e) ≡ true)))
-      → First s g scope (first_select s u n tie (filter_predicate s (rights_of g) u n (filter_from s (rights_of g) u cs n)) e (masks s (rights_of g) u cs n ++ J))
+      → ((here : Shapes) → Behind scope u n cs here → Joined s g here (behind_filter s (granted_of g) u cs n) m J (λ final. (out_faults s g final e ≡ []) × (is_plain g (origin s final e) ≡ true)))
+      → First s g scope (first_select s u n tie (filter_predicate s (granted_of g) u n (filter_from s (granted_of g) u cs n)) e (masks s (granted_of g) u cs n ++ J))
   first_clean scope u n m cs tie e J ready permits le bound tied kids =
-      let R : GrantedTables = rights_of g in
+      let R : GrantedTables = granted_of g in
       let V : Shapes → Type 0 = λ final. (out_faults s g final e ≡ []) × (is_plain g (origin s final e) ≡ true) in
       let within : Shapes = with_scan u n scope in
       let from : ℕ = filter_from s R u cs n in

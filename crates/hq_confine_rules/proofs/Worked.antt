@@ -21,7 +21,7 @@ use Rattle.hq_request_tree.specs.Fields.{FieldTrees, no_field, field, FieldTree,
 use Rattle.hq_sql_tree.specs.declared.expr.ColumnForm.TheVariants.{Plain}
 use Rattle.hq_sql_tree.specs.Tree as tree
 use Rattle.hq_sql_tree.specs.Tree.{ExprTree, OrderTree, SelectTree, JoinTrees, FilterTree, PredTree}
-use Rattle.hq_translation.specs.GrantedTables.{rights_of}
+use Rattle.hq_translation.specs.GrantedTables.{granted_of}
 use Rattle.hq_translation.specs.Names.{table_alias, fold_alias, join_alias, value_name, key_name, needed_name, unit_name}
 use Rattle.hq_translation.specs.Statement.{statement}
 use Rattle.hq_confine_rules.specs.Uses.{Fault}
@@ -119,19 +119,19 @@ summed =
     (part (codes "n") (nodes of_titles) no_part)))
     (field (codes "k") (by_key 0 (val.Int (pos 1) ∷ []) (field (codes "name") (column 1) no_field)) no_field)
 
-user_nested : faults schema user (statement nested schema (rights_of user)) ≡ []
+user_nested : faults schema user (statement nested schema (granted_of user)) ≡ []
 unfolding table_alias fold_alias join_alias value_name key_name needed_name unit_name digits
 user_nested = refl
 
-user_summed : faults schema user (statement summed schema (rights_of user)) ≡ []
+user_summed : faults schema user (statement summed schema (granted_of user)) ≡ []
 unfolding table_alias fold_alias join_alias value_name key_name needed_name unit_name digits
 user_summed = refl
 
-guest_nested : faults schema guest (statement nested schema (rights_of guest)) ≡ []
+guest_nested : faults schema guest (statement nested schema (granted_of guest)) ≡ []
 unfolding table_alias fold_alias join_alias value_name key_name needed_name unit_name digits
 guest_nested = refl
 
-guest_summed : faults schema guest (statement summed schema (rights_of guest)) ≡ []
+guest_summed : faults schema guest (statement summed schema (granted_of guest)) ≡ []
 unfolding table_alias fold_alias join_alias value_name key_name needed_name unit_name digits
 guest_summed = refl
 
@@ -141,12 +141,12 @@ abbrev due : ℕ → List ℕ → Option Fault
 due rule alias = Some (record { rule = rule; alias = alias })
 
 -- what admin asks, for the user: the filter is not there
-admin_breaks_2 : worst (faults schema user (statement (one (list (from_table 1) plain (field (codes "title") (column 2) no_field))) schema (rights_of admin))) ≡ due 2 (codes "t1")
+admin_breaks_2 : worst (faults schema user (statement (one (list (from_table 1) plain (field (codes "title") (column 2) no_field))) schema (granted_of admin))) ≡ due 2 (codes "t1")
 unfolding table_alias fold_alias join_alias value_name key_name needed_name unit_name digits
 admin_breaks_2 = refl
 
 -- a table of which nothing is granted
-nobody_breaks_1 : worst (faults schema (None ∷ []) (statement nested schema (rights_of user))) ≡ due 1 (codes "t1")
+nobody_breaks_1 : worst (faults schema (None ∷ []) (statement nested schema (granted_of user))) ≡ due 1 (codes "t1")
 unfolding table_alias fold_alias join_alias value_name key_name needed_name unit_name digits
 nobody_breaks_1 = refl
 
@@ -234,7 +234,7 @@ other_article = record article { filter = or_of (bexp is_published (bexp (test 1
 
 constant_breaks_2 : worst
     (faults schema (Some author ∷ Some other_article ∷ [])
-    (statement (one (list (from_table 1) plain (field (codes "title") (column 2) no_field))) schema (rights_of user)))
+    (statement (one (list (from_table 1) plain (field (codes "title") (column 2) no_field))) schema (granted_of user)))
     ≡ due 2 (codes "t1")
 unfolding table_alias fold_alias join_alias value_name key_name needed_name unit_name digits
 constant_breaks_2 = refl

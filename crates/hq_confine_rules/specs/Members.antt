@@ -1,4 +1,4 @@
--- Conjuncts that a session's rights ask for: those of a table's filter and of a column's mask, and those of a relationship.
+-- Conjuncts that what a session is granted asks for: those of a table's filter and of a column's mask, and those of a relationship.
 use Rattle.std.specs.Prelude.{ℕ, List, [], ◌∷◌, length, Bool, false, not, ◌&&◌, ◌==◌, Option, Some, None, is_none, bytes_eq}
 use Rattle.std.specs.List.{list_all, list_any}
 use Rattle.hq_model.specs.Grants.{Grants, grant}
@@ -16,7 +16,7 @@ use Rattle.hq_translation.specs.Names.{table_alias}
 use Rattle.hq_translation.specs.Looks.{name_of}
 use Rattle.hq_translation.specs.Predicates.{own_predicate}
 use Rattle.hq_translation.specs.Masks.{filter_predicate}
-use Rattle.hq_translation.specs.GrantedTables.{rights_of}
+use Rattle.hq_translation.specs.GrantedTables.{granted_of}
 use Rattle.hq_confine_rules.specs.Conjuncts.{opened, conjuncts}
 use Rattle.hq_confine_rules.specs.Origins.{Shape, scan, outputs, Shapes, shape_at, column_place}
 use Rattle.hq_confine_rules.specs.Renamed.{alias_of, is_alike}
@@ -25,7 +25,7 @@ use Rattle.hq_confine_rules.specs.Renamed.{alias_of, is_alike}
 
 -- the conjuncts of a table's bound filter, as they are written at the alias of number 0
 abbrev pub filter_conjuncts : Schema → Grants → (t : ℕ) → List PredTree
-filter_conjuncts s g t = opened (filter_predicate s (rights_of g) t 0 1)
+filter_conjuncts s g t = opened (filter_predicate s (granted_of g) t 0 1)
 
 -- a conjunct is this one of a filter or mask, at an alias
 abbrev pub is_written : List ℕ → PredTree → PredTree → Bool

@@ -80,7 +80,8 @@ pieces_put bytes headers held p v cap es e none due =
     (is_due (due_piece headers held p) (bytes v) due) (all_take (λ x. is_piece (due_piece headers held x.0) (bytes x.1)) (cap - 1) es e))
 
 -- the piece of a page, by the due at its place
-pub due_there : (headers : List Header) (held : List ℕ) (page : ℕ) (d : Header) (o : Option (List ℕ)) → page < length headers → piece_of (get_or headers page d) (page_at held page) ≡ o → due_piece headers held page ≡ o
+pub due_there : (headers : List Header) (held : List ℕ) (page : ℕ) (d : Header) (o : Option (List ℕ)) → page < length headers
+    → piece_of (get_or headers page d) (page_at held page) ≡ o → due_piece headers held page ≡ o
 due_there headers held page d o lt e = ap (option_and_then (λ due. piece_of due (page_at held page))) (at headers page lt) ∙ e
   where
     at : (xs : List Header) (i : ℕ) → i < length xs → slice_get xs i ≡ Some (get_or xs i d)

@@ -95,7 +95,8 @@ run_behind headers ds held more i (suc n) long =
     (ap (λ (k : ℕ). due_run (headers ++ ds) (held ++ more) k n) next ∙ run_behind headers ds held more (suc i) n long)
 
 -- two runs, one behind the other
-run_join : (headers : List Header) (held : List ℕ) (f a b : ℕ) (x y : List ℕ) → due_run headers held f a ≡ Some x → due_run headers held (f + a) b ≡ Some y → due_run headers held f (a + b) ≡ Some (x ++ y)
+run_join : (headers : List Header) (held : List ℕ) (f a b : ℕ) (x y : List ℕ) → due_run headers held f a ≡ Some x
+    → due_run headers held (f + a) b ≡ Some y → due_run headers held f (a + b) ≡ Some (x ++ y)
 run_join headers held f zero b x y e g =
     let at : f ≡ f + 0 = omega arith in
     let count : 0 + b ≡ b = omega arith in
@@ -285,8 +286,10 @@ tables_more headers held (u ∷ ts) (r ∷ runs) all t run rows e f =
     ∙ ap (λ (xs : List (List Row)). Some (xs ++ rows ∷ [])) parts.4
 
 -- the rows of a table were written
-pub stores_more : (old new : Option (List ℕ)) (headers more : List Header) (bytes : List ℕ) (runs : List TableRun) (ts : List Table) (all : List (List Row)) (t : Table) (run : TableRun) (rows : List Row)
-    → WhereTold old (Stores headers runs ts all) → WhereTold new (Wrote old headers more bytes) → run.first ≡ length headers → run.first + run.pages ≡ length more → rows_of_run t run.rows bytes ≡ Some rows
+pub stores_more : (old new : Option (List ℕ)) (headers more : List Header) (bytes : List ℕ) (runs : List TableRun) (ts : List Table)
+    (all : List (List Row)) (t : Table) (run : TableRun) (rows : List Row)
+    → WhereTold old (Stores headers runs ts all) → WhereTold new (Wrote old headers more bytes) → run.first ≡ length headers
+    → run.first + run.pages ≡ length more → rows_of_run t run.rows bytes ≡ Some rows
     → WhereTold new (Stores more (runs ++ run ∷ []) (ts ++ t ∷ []) (all ++ rows ∷ []))
 stores_more old new headers more bytes runs ts all t run rows stored wrote first pages back held is =
     let w = wrote held is in
@@ -294,7 +297,8 @@ stores_more old new headers more bytes runs ts all t run rows stored wrote first
     let count : run.pages ≡ length w.1 = (let e = ap length w.4 in let l = length-append headers w.1 in omega (arith, first, pages, e, l)) in
     let start : run.first ≡ length headers + 0 = omega (arith, first) in
     let bytes_there : due_run (headers ++ w.1) (w.0 ++ w.2) run.first run.pages ≡ Some bytes =
-    ap (λ (k : ℕ). due_run (headers ++ w.1) (w.0 ++ w.2) k run.pages) start ∙ ap (due_run (headers ++ w.1) (w.0 ++ w.2) (length headers + 0)) count ∙ run_behind headers w.1 w.0 w.2 0 (length w.1) s.0 ∙ w.7 in
+    ap (λ (k : ℕ). due_run (headers ++ w.1) (w.0 ++ w.2) k run.pages) start
+    ∙ ap (due_run (headers ++ w.1) (w.0 ++ w.2) (length headers + 0)) count ∙ run_behind headers w.1 w.0 w.2 0 (length w.1) s.0 ∙ w.7 in
     let there : table_read (headers ++ w.1) (w.0 ++ w.2) t run ≡ Some rows = ap (option_and_then (rows_of_run t run.rows)) bytes_there ∙ back in
     let whole = tables_more (headers ++ w.1) (w.0 ++ w.2) ts runs all t run rows (tables_stay headers w.1 w.0 w.2 ts runs all s.1) there in
     let long : length (w.0 ++ w.2) ≡ 4096 * length (headers ++ w.1) = (let l = length-append w.0 w.2 in let k = length-append headers w.1 in omega (arith, l, k, s.0, w.6)) in

@@ -2,7 +2,7 @@
 -- the fault of the first operand that has no value.
 use Rattle.std.specs.Prelude.{ℕ, List, [], ◌∷◌, Option, Some, None, Result, Ok}
 use Rattle.hq_base.specs.Due.{mapped, ◌>>=◌}
-use Rattle.hq_model.specs.Bexp.{or_of, no_bexp}
+use Rattle.hq_model.specs.Bexp.{never}
 use Rattle.hq_model.specs.Binding.{bound, bound_permission}
 use Rattle.hq_model.specs.Meta.{MetaTree}
 use Rattle.hq_model.specs.Permission.{Mask, Permission, permission}
@@ -20,9 +20,9 @@ mask_due m s vars t = mapped (λ shown. record { column = m.column; shown = show
 abbrev pub of_table : ℕ → Permission → BoundTree
 of_table t p = record { table = t; filter = p.filter; masks = p.masks }
 
--- a permission on table t, its filter bound and then its masks; no row where there is none
+-- a permission on table t, its filter bound and then its masks; where there is none, a filter that is never true
 abbrev pub bound_of : Option Permission → Schema → List Var → ℕ → Result BoundTree BindRefusal
-bound_of None s vars t = Ok (record { table = t; filter = or_of no_bexp; masks = [] })
+bound_of None s vars t = Ok (record { table = t; filter = never; masks = [] })
 bound_of (Some p) s vars t = mapped (of_table t) (bound_permission p s vars t)
 
 -- a table with the role's permission on it, bound, and tables in order

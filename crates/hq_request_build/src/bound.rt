@@ -70,7 +70,7 @@ fn bound_permission(
     })
 }
 
-// A table with the role's permission on it; no row where there is none.
+// A table with the role's permission on it; where there is none, with a filter that is never true.
 fn bound_table(
     alloc: Global,
     role: &Role,
@@ -84,7 +84,7 @@ fn bound_table(
         Some(view) => bound_permission(alloc, scope, session, t, &view),
         None => Ok(Bound {
             table: t,
-            filter: Bexp::Or(Vec::new(alloc)),
+            filter: Bexp::Not(Box::new(alloc, Bexp::True)?),
             masks: Vec::new(alloc),
         }),
     }

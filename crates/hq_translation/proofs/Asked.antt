@@ -15,12 +15,12 @@ use Rattle.hq_request_tree.specs.WellFormed.{IsRequest}
 use Rattle.hq_request_tree.specs.Fields.{FieldTrees}
 use Rattle.hq_request_tree.specs.Request.{AskTree, grants_in}
 use Rattle.hq_request_tree.specs.Root.{table_fields}
-use Rattle.hq_translation.specs.Fine.{Known, FineRights}
+use Rattle.hq_translation.specs.Fine.{Known, FineGranted}
 use Rattle.hq_translation.specs.GrantedTables.{GrantedTables}
-use Rattle.hq_translation.specs.Shallow.{LowRights, fields_height}
+use Rattle.hq_translation.specs.Shallow.{LowGranted, fields_height}
 use Rattle.hq_translation.proofs.Meaning.{means_resolved}
 use Rattle.hq_translation.proofs.WellFormed.{is_well_formed}
-use Rattle.hq_translation.specs.Asked.{asked_rights, table_request, IsAsked, MeansAsked}
+use Rattle.hq_translation.specs.Asked.{asked_granted, table_request, IsAsked, MeansAsked}
 use Rattle.hq_translation.proofs.Relationships.{rel_fine}
 use Rattle.hq_translation.proofs.FineRequests.{fields_fine, keys_differ}
 use Rattle.hq_translation.proofs.FineGrants.{grant_fine}
@@ -34,7 +34,7 @@ numbered_long f k (x ∷ xs) = ap suc (numbered_long f (suc k) xs)
 pub well_asked : (tables : List Table) (m : MetaTree) (a : AskTree) → UsesExisting tables m (table_request a) → IsAsked tables m a
 well_asked tables m a there catalog fitting request held fits =
     let s : Schema = schema_of tables m in
-    let g : GrantedTables = asked_rights tables m a in
+    let g : GrantedTables = asked_granted tables m a in
     let fs : FieldTrees = table_fields a.fields in
     let r : IsRequest tables m (table_request a) = tables_asked tables m a request in
     let long : length tables ≡ length s = sym (numbered_long (schema_table m) 0 tables) in
@@ -44,11 +44,11 @@ well_asked tables m a there catalog fitting request held fits =
     (subst (Everywhere (UsesHere s (existing m s)) (UsesPart (existing m s)) fs s) long used)
     (subst (Everywhere (FieldFits s) (PartFits s) fs s) long r.fit)
     (subst (Everywhere FieldKeys PartKeys fs s) long r.keys.1) held.1 in
-    let rights : (t : ℕ) → Known s t → FineRights s g t = λ t known. record { filter = (granted t).filter; masks = (granted t).masks } in
-    let low : LowRights g 301 = (λ t. (granted t).low, λ t. (granted t).low_masks) in
+    let allowed : (t : ℕ) → Known s t → FineGranted s g t = λ t known. record { filter = (granted t).filter; masks = (granted t).masks } in
+    let low : LowGranted g 301 = (λ t. (granted t).low, λ t. (granted t).low_masks) in
     let high = height_levels fs in
     let few : 2 * fields_height fs + (2 * 400 + 2 * 301 + 200 + 6) ≤ 2000 = let l = r.shallow in omega (arith, high, l) in
-    is_well_formed fs tables m g 301 400 200 catalog rights fine (keys_differ (keys_of fs) r.keys.0) held.0 low (fields_low s fs (length tables) r.fit) few fits
+    is_well_formed fs tables m g 301 400 200 catalog allowed fine (keys_differ (keys_of fs) r.keys.0) held.0 low (fields_low s fs (length tables) r.fit) few fits
 
 pub means_asked : (tables : List Table) (m : MetaTree) (session : Session) (a : AskTree) (d : List (List Row)) → GrantsDecide tables m session (table_request a) d → MeansAsked tables m session a d
 means_asked tables m session a d decide catalog database request is held =

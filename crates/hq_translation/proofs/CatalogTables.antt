@@ -10,7 +10,7 @@ use Rattle.hq_model.specs.declared.table.Table.{Table}
 use Rattle.hq_sql_tree.specs.WellFormed.{is_table, table_names}
 use Rattle.hq_translation.specs.GrantedTables.{GrantedTables}
 use Rattle.hq_translation.specs.Correct.{HasKey}
-use Rattle.hq_translation.specs.Fine.{kinds_of, Known, Has, FineBexp, FineMask, FineRights}
+use Rattle.hq_translation.specs.Fine.{kinds_of, Known, Has, FineBexp, FineMask, FineGranted}
 use Rattle.hq_translation.proofs.Names.{same_text, Differ}
 use Rattle.hq_translation.proofs.Sound.{both, negated, table_at, schema_is, IsNamed, named_tables, same_full, other_table}
 
@@ -52,8 +52,8 @@ numbered_length f k [] = refl
 numbered_length f k (x ∷ xs) = ap suc (numbered_length f (suc k) xs)
 
 pub fine_tables : (tables : List Table) (meta : MetaTree) (g : GrantedTables) → is_catalog tables ≡ true
-    → ((t : ℕ) → Known (schema_of tables meta) t → FineRights (schema_of tables meta) g t) → FineTables (schema_of tables meta) g tables
-fine_tables tables meta g c rights t known =
+    → ((t : ℕ) → Known (schema_of tables meta) t → FineGranted (schema_of tables meta) g t) → FineTables (schema_of tables meta) g tables
+fine_tables tables meta g c allowed t known =
     let parts = both _ _ c in
     let n = named_tables tables tables parts.1 in
     let apart = (both _ _ parts.0).1 in
@@ -68,6 +68,6 @@ fine_tables tables meta g c rights t known =
       differ = rw alike.columns named.columns;
       key = subst (λ (k : List ℕ). Each (Has (schema_of tables meta) t) k) (sym alike.key) (subst (λ (cs : List Column). Each (λ c. c < length cs) (table_at tables t).key) (sym alike.columns) key);
       keyed = rw alike.key named.keyed;
-      filter = (rights t known).filter;
-      masks = (rights t known).masks;
+      filter = (allowed t known).filter;
+      masks = (allowed t known).masks;
     }

@@ -18,7 +18,7 @@ use Rattle.hq_model.specs.declared.table.Column.{Column}
 use Rattle.hq_model.specs.declared.table.Table.{Table}
 use Rattle.hq_sql_tree.specs.Tree.{OutTree, PairTree, pairs_of, orders_of, JoinTree, PredTree}
 use Rattle.hq_sql_tree.specs.Meaning.{NamedRow, cell_named, Scope, with_alias, World, members, outputs, orders_cmp, same_values, distinct_on, rows_of, truth_at}
-use Rattle.hq_translation.specs.GrantedTables.{rights_of}
+use Rattle.hq_translation.specs.GrantedTables.{granted_of}
 use Rattle.hq_translation.specs.Names.{fold_alias, join_alias, value_name}
 use Rattle.hq_translation.specs.Looks.{Look}
 use Rattle.hq_translation.specs.Conditions.{with_member, where_of}
@@ -93,8 +93,8 @@ module _ (s : Schema) (g : Grants) (d : List (List Row)) where
 -- tied to what stands around by `tie`.
 module _ (s : Schema) (tables : List Table) (d : List (List Row)) (sound : Sound s tables d) (g : Grants) (u n : ℕ) (a : ListArguments)
     (more : List ℕ) (J : List JoinTree) (k : ℕ) (F : Row → Scope → Scope)
-    (x : Extends s (record { tables = tables; database = d }) J u n (children_from s (rights_of g) u (list_used s u a more) a n) k F)
-    (bound : n + (list_numbers s (rights_of g) u (list_used s u a more) a + k) ≤ 2 ^ 64) (scope : Scope) where
+    (x : Extends s (record { tables = tables; database = d }) J u n (children_from s (granted_of g) u (list_used s u a more) a n) k F)
+    (bound : n + (list_numbers s (granted_of g) u (list_used s u a more) a + k) ≤ 2 ^ 64) (scope : Scope) where
   abbrev pub w : World
   w = record { tables = tables; database = d }
 
@@ -102,13 +102,13 @@ module _ (s : Schema) (tables : List Table) (d : List (List Row)) (sound : Sound
   cs = list_used s u a more
 
   abbrev pub look : Look
-  look = shown_look s (rights_of g) u cs n
+  look = shown_look s (granted_of g) u cs n
 
   abbrev pub keys : List Sort
   keys = list_sorts s u a
 
   abbrev pub from : ℕ
-  from = sorts_from s (rights_of g) u cs a n
+  from = sorts_from s (granted_of g) u cs a n
 
   -- behind the masks; from there behind the sorts and the children; and behind all
   abbrev pub M : Row → Scope → Scope
@@ -120,19 +120,19 @@ module _ (s : Schema) (tables : List Table) (d : List (List Row)) (sound : Sound
   abbrev pub G : Row → Scope → Scope
   G row e = F row (with_sorts s g d keys u from row (M row e))
 
-  pub later : Extends s w (sorts_joins keys s (rights_of g) u n from ++ J) u n from (sorts_numbers keys s (rights_of g) u + k) H
+  pub later : Extends s w (sorts_joins keys s (granted_of g) u n from ++ J) u n from (sorts_numbers keys s (granted_of g) u + k) H
   later =
-      extends_apart s w (sorts_joins keys s (rights_of g) u n from) J u n from (sorts_numbers keys s (rights_of g) u)
-      (children_from s (rights_of g) u cs a n) k _ (with_sorts s g d keys u from) F (omega arith) (omega arith)
+      extends_apart s w (sorts_joins keys s (granted_of g) u n from) J u n from (sorts_numbers keys s (granted_of g) u)
+      (children_from s (granted_of g) u cs a n) k _ (with_sorts s g d keys u from) F (omega arith) (omega arith)
       (sorts_extend s g d tables sound keys u n from (omega arith) (omega arith)) x
 
-  pub all : Extends s w (masks s (rights_of g) u cs n ++ (sorts_joins keys s (rights_of g) u n from ++ J)) u n (n + 1)
-      (extra s (rights_of g) u cs + filter_numbers s (rights_of g) u + where_numbers a.wanted s (rights_of g) u
-      + sorts_numbers keys s (rights_of g) u + k)
+  pub all : Extends s w (masks s (granted_of g) u cs n ++ (sorts_joins keys s (granted_of g) u n from ++ J)) u n (n + 1)
+      (extra s (granted_of g) u cs + filter_numbers s (granted_of g) u + where_numbers a.wanted s (granted_of g) u
+      + sorts_numbers keys s (granted_of g) u + k)
       G
   all =
-      extends_apart s w (masks s (rights_of g) u cs n) (sorts_joins keys s (rights_of g) u n from ++ J) u n (n + 1)
-      (extra s (rights_of g) u cs) from (sorts_numbers keys s (rights_of g) u + k) _ M H (omega arith) (omega arith)
+      extends_apart s w (masks s (granted_of g) u cs n) (sorts_joins keys s (granted_of g) u n from ++ J) u n (n + 1)
+      (extra s (granted_of g) u cs) from (sorts_numbers keys s (granted_of g) u + k) _ M H (omega arith) (omega arith)
       (masks_at s tables d sound g u n cs (omega arith)) later
 
   -- the scope of a row behind all joins
@@ -144,7 +144,7 @@ module _ (s : Schema) (tables : List Table) (d : List (List Row)) (sound : Sound
 
   x_looks : (far : Row) → Narrow s u far → Looks look cs (X far) (shown s g d u far)
   x_looks far narrow =
-      looks_later s tables d sound g u n cs _ u n from (sorts_numbers keys s (rights_of g) u + k) H later (omega arith) (omega arith) (M far (at_row s u n scope far)) far (shown s g d u far)
+      looks_later s tables d sound g u n cs _ u n from (sorts_numbers keys s (granted_of g) u + k) H later (omega arith) (omega arith) (M far (at_row s u n scope far)) far (shown s g d u far)
       (looks_at s tables d sound g u n cs (at_row s u n scope far) far (omega arith) (shows_row s scope u n far (sound.differ u) narrow))
 
   x_where : (far : Row) → Narrow s u far → Looks look (columns_in a.wanted) (X far) (shown s g d u far)
@@ -181,26 +181,26 @@ module _ (s : Schema) (tables : List Table) (d : List (List Row)) (sound : Sound
       abbrev condition : List PredTree
       condition =
           with_member tie
-          (with_member (filter_predicate s (rights_of g) u n (filter_from s (rights_of g) u cs n))
-          (with_member (predicate a.wanted s (where_mode s (rights_of g)) look u n (behind_filter s (rights_of g) u cs n)) []))
+          (with_member (filter_predicate s (granted_of g) u n (filter_from s (granted_of g) u cs n))
+          (with_member (predicate a.wanted s (where_mode s (granted_of g)) look u n (behind_filter s (granted_of g) u cs n)) []))
 
-      rowwise : Rowwise s w u n scope (masks s (rights_of g) u cs n ++ (sorts_joins keys s (rights_of g) u n from ++ J))
-          (where_of condition) (orders keys s (rights_of g) look u n from) X test (sorts_cmp s g d keys u)
+      rowwise : Rowwise s w u n scope (masks s (granted_of g) u cs n ++ (sorts_joins keys s (granted_of g) u n from ++ J))
+          (where_of condition) (orders keys s (granted_of g) look u n from) X test (sorts_cmp s g d keys u)
       rowwise =
-          let own : PredTree = filter_predicate s (rights_of g) u n (filter_from s (rights_of g) u cs n) in
-          let wanted : PredTree = predicate a.wanted s (where_mode s (rights_of g)) look u n (behind_filter s (rights_of g) u cs n) in
+          let own : PredTree = filter_predicate s (granted_of g) u n (filter_from s (granted_of g) u cs n) in
+          let wanted : PredTree = predicate a.wanted s (where_mode s (granted_of g)) look u n (behind_filter s (granted_of g) u cs n) in
           record {
             joins = behind_joins s tables d sound u n _ _ _ G all scope;
             keeps = λ far narrow.
                 kept_three w (X far) tie own wanted
                 ∙ ap₂ (λ b c. b && c) (means far narrow)
-                (ap₂ (λ b c. b && (c && true)) (own_means s tables d sound (grant g u).filter u n (filter_from s (rights_of g) u cs n) (X far) far (omega arith) (omega arith) (x_shows far narrow))
-                (ap is_true (where_means s tables d sound g a.wanted look u n (behind_filter s (rights_of g) u cs n) (X far) far (omega arith) (omega arith)
+                (ap₂ (λ b c. b && (c && true)) (own_means s tables d sound (grant g u).filter u n (filter_from s (granted_of g) u cs n) (X far) far (omega arith) (omega arith) (x_shows far narrow))
+                (ap is_true (where_means s tables d sound g a.wanted look u n (behind_filter s (granted_of g) u cs n) (X far) far (omega arith) (omega arith)
                 (x_shows far narrow) (x_where far narrow))));
             ordered = λ x y p q. orders_shown s g d keys look u n from (X x) (X y) x y (x_sorts x p) (x_sorts y q);
           }
 
-      pub rows_are : (limit : Option ℕ) (outs : List OutTree) → rows_of (list_rows s (rights_of g) u cs a n tie limit outs J) w scope ≡ map (λ r. outputs outs [] (X r)) (chosen limit)
+      pub rows_are : (limit : Option ℕ) (outs : List OutTree) → rows_of (list_rows s (granted_of g) u cs a n tie limit outs J) w scope ≡ map (λ r. outputs outs [] (X r)) (chosen limit)
       rows_are limit outs =
           body_rows s tables d sound u n scope _ _ _ X test (sorts_cmp s g d keys u) rowwise
           (distinct_columns (table s u).columns look (once a).distinct) (distinct_rows (once a).distinct (seen_by s g d) u)
@@ -230,11 +230,11 @@ module _ (s : Schema) (tables : List Table) (d : List (List Row)) (sound : Sound
 
     module _ (means : (far : Row) → Narrow s u far → is_true (truth_at tie w (X far)) ≡ tied far) where
       pub list_means : (values : List PairTree) (members_at : Row → MemberTrees) → length keys ≤ 2 ^ 64 → ((far : Row) → Narrow s u far → members (pairs_of values) [] (X far) ≡ members_at far)
-          → rows_of (list_select s (rights_of g) u cs a n tie values J) w scope
+          → rows_of (list_select s (granted_of g) u cs a n tie values J) w scope
           ≡ ((value_name, json (arr (elements_of (map (λ far. obj (members_at far)) (selected s (seen_by s g d) u a (grant g u).limit (filter tied (permitted s g d u))))))) ∷ []) ∷ []
       list_means values members_at few children =
           let limit : Option ℕ = smaller a.limit (grant g u).limit in
-          let outs : List OutTree = list_outputs s (rights_of g) u cs a n values in
+          let outs : List OutTree = list_outputs s (granted_of g) u cs a n values in
           let out : Row → NamedRow = λ r. outputs outs [] (X r) in
           let R : Row → Row → Ordering = sorts_cmp s g d keys u in
           let chosen_rows : List Row = chosen limit in

@@ -17,7 +17,7 @@ use Rattle.hq_model.specs.Truth.{truth, keeps}
 use Rattle.hq_model.specs.declared.table.Table.{Table}
 use Rattle.hq_sql_tree.specs.Tree.{JoinTree, PredTree}
 use Rattle.hq_sql_tree.specs.Meaning.{NamedRow, cell_named, Scope, with_alias, World, or_null_row, order_cmp, outputs, rows_of, kept, truth_at}
-use Rattle.hq_translation.specs.GrantedTables.{rights_of}
+use Rattle.hq_translation.specs.GrantedTables.{granted_of}
 use Rattle.hq_translation.specs.Names.{table_alias, join_alias, value_name}
 use Rattle.hq_translation.specs.Looks.{Look, ColumnName, own_look, cell_at, is_used}
 use Rattle.hq_translation.specs.Conditions.{with_member, where_of}
@@ -140,29 +140,29 @@ module _ (s : Schema) (tables : List Table) (d : List (List Row)) (sound : Sound
   module _ (g : Grants) where
     -- the scope behind the masks of an alias
     abbrev pub behind_masks : (t : ℕ) → (used : List ℕ) → (n : ℕ) → Row → Scope → Scope
-    behind_masks t cs n = with_masks (used_masks (rights_of g) t cs) t (n + 1)
+    behind_masks t cs n = with_masks (used_masks (granted_of g) t cs) t (n + 1)
 
-    pub masks_at : (t n : ℕ) (cs : List ℕ) → n + 1 + extra s (rights_of g) t cs ≤ 2 ^ 64 → Extends s w (masks s (rights_of g) t cs n) t n (n + 1) (extra s (rights_of g) t cs) (behind_masks t cs n)
-    masks_at t n cs bound = masks_extend (used_masks (rights_of g) t cs) t n (n + 1) (omega arith) bound
+    pub masks_at : (t n : ℕ) (cs : List ℕ) → n + 1 + extra s (granted_of g) t cs ≤ 2 ^ 64 → Extends s w (masks s (granted_of g) t cs n) t n (n + 1) (extra s (granted_of g) t cs) (behind_masks t cs n)
+    masks_at t n cs bound = masks_extend (used_masks (granted_of g) t cs) t n (n + 1) (omega arith) bound
 
     -- the columns that are used are looked at as they are shown
-    pub looks_at : (t n : ℕ) (cs : List ℕ) (scope : Scope) (row : Row) → n + 1 + extra s (rights_of g) t cs ≤ 2 ^ 64 → Shows s scope t n row
-        → Looks (shown_look s (rights_of g) t cs n) cs (behind_masks t cs n row scope) (shown s g d t row)
+    pub looks_at : (t n : ℕ) (cs : List ℕ) (scope : Scope) (row : Row) → n + 1 + extra s (granted_of g) t cs ≤ 2 ^ 64 → Shows s scope t n row
+        → Looks (shown_look s (granted_of g) t cs n) cs (behind_masks t cs n row scope) (shown s g d t row)
     looks_at t n cs scope row bound shows c h =
-        mask_looks (used_masks (rights_of g) t cs) t n (n + 1) c scope row (omega arith) bound shows
+        mask_looks (used_masks (granted_of g) t cs) t n (n + 1) c scope row (omega arith) bound shows
         ∙ ap (λ k. cond (keeps k s (all_of s d) t row) (row_cell row c) null) (used_same (grant g t).masks cs c h)
 
     -- later joins change nothing of that
     pub looks_later : (t n : ℕ) (cs : List ℕ) (H : List JoinTree) (u p q k : ℕ) (G : Row → Scope → Scope) → Extends s w H u p q k G
-        → n + 1 + extra s (rights_of g) t cs ≤ q → q + k ≤ 2 ^ 64 → (scope : Scope) (row : Row) (cell : ℕ → CellTree)
-        → Looks (shown_look s (rights_of g) t cs n) cs scope cell → Looks (shown_look s (rights_of g) t cs n) cs (G row scope) cell
+        → n + 1 + extra s (granted_of g) t cs ≤ q → q + k ≤ 2 ^ 64 → (scope : Scope) (row : Row) (cell : ℕ → CellTree)
+        → Looks (shown_look s (granted_of g) t cs n) cs scope cell → Looks (shown_look s (granted_of g) t cs n) cs (G row scope) cell
     looks_later t n cs H u p q k G x le bound scope row cell l c h =
-        look_same (used_masks (rights_of g) t cs) t n (n + 1) c (G row scope) scope
+        look_same (used_masks (granted_of g) t cs) t n (n + 1) c (G row scope) scope
         (x.keeps scope row (table_alias n) (λ m a b. join_is_no_table m n))
         (λ m a b. x.keeps scope row (join_alias m) (λ r e f. join_aliases_differ m r (omega arith) (omega arith)))
         ∙ l c h
 
-    pub where_promises : Promises s w (seen_by s g d) (where_mode s (rights_of g))
+    pub where_promises : Promises s w (seen_by s g d) (where_mode s (granted_of g))
     where_promises = record {
       within = is_permitted s g d;
       after = behind_masks;
@@ -177,7 +177,7 @@ module _ (s : Schema) (tables : List Table) (d : List (List Row)) (sound : Sound
 
     -- a request's `where` at an alias whose columns are looked at as they are shown
     pub where_means : (b : BexpTree) (look : Look) (t p n : ℕ) (scope : Scope) (row : Row) → p < n
-        → n + numbers b s (where_mode s (rights_of g)) t ≤ 2 ^ 64 → Shows s scope t p row
+        → n + numbers b s (where_mode s (granted_of g)) t ≤ 2 ^ 64 → Shows s scope t p row
         → Looks look (columns_in b) scope (shown s g d t row)
-        → truth_at (predicate b s (where_mode s (rights_of g)) look t p n) w scope ≡ truth b s (seen_by s g d) t row
-    where_means = predicate_means s tables d sound (seen_by s g d) (where_mode s (rights_of g)) where_promises
+        → truth_at (predicate b s (where_mode s (granted_of g)) look t p n) w scope ≡ truth b s (seen_by s g d) t row
+    where_means = predicate_means s tables d sound (seen_by s g d) (where_mode s (granted_of g)) where_promises

@@ -16,7 +16,7 @@ use Rattle.hq_model.specs.Seen.{row_cell, table_rows}
 use Rattle.hq_model.specs.declared.table.Table.{Table}
 use Rattle.hq_sql_tree.specs.Tree.{ExprTree, JoinTree, joins_of, PredTree}
 use Rattle.hq_sql_tree.specs.Meaning.{Scope, World, value, or_null_row, order_cmp, outputs, rows_of, joined, truth_at}
-use Rattle.hq_translation.specs.GrantedTables.{rights_of}
+use Rattle.hq_translation.specs.GrantedTables.{granted_of}
 use Rattle.hq_translation.specs.Names.{table_alias}
 use Rattle.hq_translation.specs.Conditions.{with_member, where_of}
 use Rattle.hq_translation.specs.Masks.{value_output, filter_numbers, filter_predicate}
@@ -82,12 +82,12 @@ module _ (s : Schema) (tables : List Table) (d : List (List Row)) (sound : Sound
   first_row e cell scope values (r ∷ l) h = rw (values r h.0) refl
 
   -- the value of an expression at the first row by key of the permitted rows that are tied to what stands around
-  pub first_means : (g : Grants) (e : ExprTree) (cell : Row → CellTree) (scope : Scope) (tie : PredTree) (tied : Row → Bool) (q : ℕ) → n < q → q + filter_numbers s (rights_of g) u ≤ 2 ^ 64
+  pub first_means : (g : Grants) (e : ExprTree) (cell : Row → CellTree) (scope : Scope) (tie : PredTree) (tied : Row → Bool) (q : ℕ) → n < q → q + filter_numbers s (granted_of g) u ≤ 2 ^ 64
       → ((far : Row) → Narrow s u far → value e [] (behind scope far) ≡ cell far)
       → ((far : Row) → Narrow s u far → is_true (truth_at tie w (behind scope far)) ≡ tied far)
-      → or_null_row (rows_of (first_select s u n tie (filter_predicate s (rights_of g) u n q) e J) w scope) ≡ first_named (map cell (filter tied (permitted s g d u))) ∷ []
+      → or_null_row (rows_of (first_select s u n tie (filter_predicate s (granted_of g) u n q) e J) w scope) ≡ first_named (map cell (filter tied (permitted s g d u))) ∷ []
   first_means g e cell scope tie tied q lt bound values means =
-      let condition : PredTree = filter_predicate s (rights_of g) u n q in
+      let condition : PredTree = filter_predicate s (granted_of g) u n q in
       let test : Row → Bool = λ far. tied far && (is_permitted s g d u far && true) in
       let X : Row → Scope = behind scope in
       let R : Row → Row → Ordering = columns_cmp (table s u).key in

@@ -44,7 +44,7 @@ use Rattle.hq_translation.specs.Sorts.{Sort, shown_sorts, own_sorts, last_used, 
 use Rattle.hq_translation.specs.Lists.{once, list_sorts, list_used, sorts_from, children_from, distinct_columns, list_outputs, list_rows, list_select}
 use Rattle.hq_translation.specs.Aggregates.{some_aggregate, taken_value, taken_pairs, count_value, summary_value, summary_pairs, needed, needed_columns, needed_outputs, summary_used, folded_select, plain_select, summary_select}
 use Rattle.hq_translation.specs.Fields.{fields_used, key_used, origin_tie, empty_select, key_members, field_value, fields_values, part_value, parts_values, field_numbers, part_numbers, fields_joins, field_joins, parts_joins, part_joins, kids_from}
-use Rattle.hq_translation.specs.Shallow.{LowRights, AreShort, fields_height, field_height, parts_height, part_height, AreLow, IsLow, AreLowParts, IsLowPart, IsShallow}
+use Rattle.hq_translation.specs.Shallow.{LowGranted, AreShort, fields_height, field_height, parts_height, part_height, AreLow, IsLow, AreLowParts, IsLowPart, IsShallow}
 
 -- ---- conditions
 
@@ -363,7 +363,7 @@ each_used used F (m ∷ ms) h =
     let go : (b : Bool) → Each (λ m. depth m.shown ≤ F) (cond b (m ∷ filter used ms) (filter used ms)) = elim [ true ↦ (h.0, each_used used F ms h.1) | false ↦ each_used used F ms h.1 ] in
     go (used m)
 
-module _ (s : Schema) (g : GrantedTables) (F : ℕ) (low : LowRights g F) where
+module _ (s : Schema) (g : GrantedTables) (F : ℕ) (low : LowGranted g F) where
   used_low : (t : ℕ) (cs : List ℕ) (p n : ℕ) → LowJoins (2 * F + 3) (mask_joins (used_masks g t cs) s t p n)
   used_low t cs p n = masks_low (used_masks g t cs) s t p n F (each_used (λ m. is_used m.column cs) F (g.masks t) (low.1 t))
 

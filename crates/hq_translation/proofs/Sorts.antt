@@ -16,7 +16,7 @@ use Rattle.hq_model.specs.Selected.{SortKey, sort_cell as shown_cell, sorts_cmp 
 use Rattle.hq_model.specs.declared.table.Table.{Table}
 use Rattle.hq_sql_tree.specs.Tree.{orders_of}
 use Rattle.hq_sql_tree.specs.Meaning.{NamedRow, cell_named, Scope, with_alias, World, outputs, order_cmp, orders_cmp}
-use Rattle.hq_translation.specs.GrantedTables.{rights_of}
+use Rattle.hq_translation.specs.GrantedTables.{granted_of}
 use Rattle.hq_translation.specs.Names.{fold_alias, join_alias, value_name, key_name}
 use Rattle.hq_translation.specs.Looks.{Look, cell_at}
 use Rattle.hq_translation.specs.Predicates.{link}
@@ -40,7 +40,7 @@ module _ (s : Schema) (g : Grants) (d : List (List Row)) where
   abbrev pub with_sorts : List Sort → (t n : ℕ) → Row → Scope → Scope
   with_sorts [] t n row scope = scope
   with_sorts (k ∷ ks) t n row scope =
-      with_sorts ks t (n + sort_numbers k.key.through s (rights_of g) t k.key.column) row (with_sort k.key.through t n k.key.column row scope)
+      with_sorts ks t (n + sort_numbers k.key.through s (granted_of g) t k.key.column) row (with_sort k.key.through t n k.key.column row scope)
 
   -- the cell of a sort key
   abbrev pub sort_cell : (own : Bool) → (through : List ℕ) → (t c : ℕ) → Row → CellTree
@@ -83,12 +83,12 @@ module _ (s : Schema) (g : Grants) (d : List (List Row)) where
       (cell_named (e (sort_place k.own k.key.through s look t p n k.key.column).alias)
       (sort_place k.own k.key.through s look t p n k.key.column).name
       ≡ sort_cell k.own k.key.through t k.key.column row)
-      × SortsShown ks look t p (n + sort_numbers k.key.through s (rights_of g) t k.key.column) e row
+      × SortsShown ks look t p (n + sort_numbers k.key.through s (granted_of g) t k.key.column) e row
 
   pub orders_shown : (ks : List Sort) (look : Look) (t p n : ℕ) (e f : Scope) (x y : Row) → SortsShown ks look t p n e x
-      → SortsShown ks look t p n f y → order_cmp (orders ks s (rights_of g) look t p n) e f ≡ sorts_cmp ks t x y
+      → SortsShown ks look t p n f y → order_cmp (orders ks s (granted_of g) look t p n) e f ≡ sorts_cmp ks t x y
   orders_shown [] look t p n e f x y a b = refl
-  orders_shown (k ∷ ks) look t p n e f x y a b = rw (a.0, b.0, orders_shown ks look t p (n + sort_numbers k.key.through s (rights_of g) t k.key.column) e f x y a.1 b.1) refl
+  orders_shown (k ∷ ks) look t p n e f x y a b = rw (a.0, b.0, orders_shown ks look t p (n + sort_numbers k.key.through s (granted_of g) t k.key.column) e f x y a.1 b.1) refl
 
   -- a named row has the cells of the sort keys, from the name of number i on
   abbrev pub Carries : NamedRow → List Sort → (t i : ℕ) → Row → Type 0
@@ -102,12 +102,12 @@ module _ (s : Schema) (g : Grants) (d : List (List Row)) where
       (rw (ne i (omega arith) (omega arith)) h.0, carries_behind r name c ks t (i + 1) x (λ j a b. ne j (omega arith) (omega arith)) h.1)
 
   pub carries_keys : (ks : List Sort) (look : Look) (t p n i : ℕ) (scope : Scope) (x : Row) → SortsShown ks look t p n scope x
-      → i + length ks ≤ 2 ^ 64 → Carries (outputs (key_outputs ks s (rights_of g) look t p n i) [] scope) ks t i x
+      → i + length ks ≤ 2 ^ 64 → Carries (outputs (key_outputs ks s (granted_of g) look t p n i) [] scope) ks t i x
   carries_keys [] look t p n i scope x h bound = tt
   carries_keys (k ∷ ks) look t p n i scope x h bound = (
     rw (same_text (key_name i)) h.0,
     carries_behind _ (key_name i) _ ks t (i + 1) x (λ j a b. key_names_differ i j (omega arith) (omega arith))
-        (carries_keys ks look t p (n + sort_numbers k.key.through s (rights_of g) t k.key.column) (i + 1) scope x h.1 (omega arith)),
+        (carries_keys ks look t p (n + sort_numbers k.key.through s (granted_of g) t k.key.column) (i + 1) scope x h.1 (omega arith)),
   )
 
   pub fold_orders : (n : ℕ) (ks : List Sort) (t i : ℕ) (e f : Scope) (x y : Row) → Carries (e (fold_alias n)) ks t i x
@@ -119,29 +119,29 @@ module _ (s : Schema) (g : Grants) (d : List (List Row)) where
     abbrev w : World
     w = record { tables = tables; database = d }
 
-    pub sort_extends : (through : List ℕ) (t p n c : ℕ) → p < n → n + sort_numbers through s (rights_of g) t c ≤ 2 ^ 64
-        → Extends s w (sort_joins through s (rights_of g) t p n c) t p n (sort_numbers through s (rights_of g) t c) (with_sort through t n c)
+    pub sort_extends : (through : List ℕ) (t p n c : ℕ) → p < n → n + sort_numbers through s (granted_of g) t c ≤ 2 ^ 64
+        → Extends s w (sort_joins through s (granted_of g) t p n c) t p n (sort_numbers through s (granted_of g) t c) (with_sort through t n c)
     sort_extends [] t p n c lt bound = extends_none s w t p n
     sort_extends (r ∷ rs) t p n c lt bound =
         let u : ℕ = (rel s t r).remote in
         let cs : List ℕ = last_used rs c in
-        let m : ℕ = behind_filter s (rights_of g) u cs n in
-        let k : ℕ = extra s (rights_of g) u cs + filter_numbers s (rights_of g) u + sort_numbers rs s (rights_of g) u c in
+        let m : ℕ = behind_filter s (granted_of g) u cs n in
+        let k : ℕ = extra s (granted_of g) u cs + filter_numbers s (granted_of g) u + sort_numbers rs s (granted_of g) u c in
         let inner = sort_extends rs u n m c (omega arith) (omega arith) in
         let F : Row → Scope → Scope = λ far e. with_sort rs u m c far (behind_masks s tables d sound g u cs n far e) in
         let all =
-        extends_apart s w (masks s (rights_of g) u cs n) (sort_joins rs s (rights_of g) u n m c) u n (n + 1)
-        (extra s (rights_of g) u cs) m (sort_numbers rs s (rights_of g) u c) k (behind_masks s tables d sound g u cs n)
+        extends_apart s w (masks s (granted_of g) u cs n) (sort_joins rs s (granted_of g) u n m c) u n (n + 1)
+        (extra s (granted_of g) u cs) m (sort_numbers rs s (granted_of g) u c) k (behind_masks s tables d sound g u cs n)
         (with_sort rs u m c) (omega arith) (omega arith) (masks_at s tables d sound g u n cs (omega arith)) inner in
-        extends_one s w _ t p n (sort_numbers (r ∷ rs) s (rights_of g) t c) (λ row. first_named (map (shown_cell rs s (seen_by s g d) u c) (related s (seen_by s g d) t r row))) (omega arith)
+        extends_one s w _ t p n (sort_numbers (r ∷ rs) s (granted_of g) t c) (λ row. first_named (map (shown_cell rs s (seen_by s g d) u c) (related s (seen_by s g d) t r row))) (omega arith)
         (λ scope row shows.
-        first_means s tables d sound u n (masks s (rights_of g) u cs n ++ sort_joins rs s (rights_of g) u n m c) (n + 1) k F all g
-        (cell_at (sort_place false rs s (shown_look s (rights_of g) u cs n) u n m c)) (shown_cell rs s (seen_by s g d) u c) scope
-        (link s t (rel s t r) p n) (linked_by (rel s t r).pairs row) (filter_from s (rights_of g) u cs n) (omega arith) (omega arith)
-        (λ far narrow. sort_shown false rs (shown_look s (rights_of g) u cs n) u n m c
+        first_means s tables d sound u n (masks s (granted_of g) u cs n ++ sort_joins rs s (granted_of g) u n m c) (n + 1) k F all g
+        (cell_at (sort_place false rs s (shown_look s (granted_of g) u cs n) u n m c)) (shown_cell rs s (seen_by s g d) u c) scope
+        (link s t (rel s t r) p n) (linked_by (rel s t r).pairs row) (filter_from s (granted_of g) u cs n) (omega arith) (omega arith)
+        (λ far narrow. sort_shown false rs (shown_look s (granted_of g) u cs n) u n m c
         (behind_masks s tables d sound g u cs n far (at_row s u n scope far)) (F far (at_row s u n scope far)) far
         (behind_shows s tables d sound u n _ _ _ _ all scope far narrow)
-        (looks_later s tables d sound g u n cs (sort_joins rs s (rights_of g) u n m c) u n m (sort_numbers rs s (rights_of g) u c)
+        (looks_later s tables d sound g u n cs (sort_joins rs s (granted_of g) u n m c) u n m (sort_numbers rs s (granted_of g) u c)
         (with_sort rs u m c) inner (omega arith) (omega arith) (behind_masks s tables d sound g u cs n far (at_row s u n scope far)) far
         (shown s g d u far)
         (looks_at s tables d sound g u n cs (at_row s u n scope far) far (omega arith) (shows_row s scope u n far (sound.differ u) narrow)))
@@ -149,27 +149,27 @@ module _ (s : Schema) (g : Grants) (d : List (List Row)) where
         (λ far narrow. link_means s w t (rel s t r) p n _ row far (behind_above s tables d sound u n _ _ _ _ all scope far t p row lt (omega arith) shows)
         (behind_shows s tables d sound u n _ _ _ _ all scope far narrow)))
 
-    pub sorts_extend : (ks : List Sort) (t p n : ℕ) → p < n → n + sorts_numbers ks s (rights_of g) t ≤ 2 ^ 64
-        → Extends s w (sorts_joins ks s (rights_of g) t p n) t p n (sorts_numbers ks s (rights_of g) t) (with_sorts ks t n)
+    pub sorts_extend : (ks : List Sort) (t p n : ℕ) → p < n → n + sorts_numbers ks s (granted_of g) t ≤ 2 ^ 64
+        → Extends s w (sorts_joins ks s (granted_of g) t p n) t p n (sorts_numbers ks s (granted_of g) t) (with_sorts ks t n)
     sorts_extend [] t p n lt bound = extends_none s w t p n
     sorts_extend (k ∷ ks) t p n lt bound =
-        let l : ℕ = sort_numbers k.key.through s (rights_of g) t k.key.column in
-        extends_then s w (sort_joins k.key.through s (rights_of g) t p n k.key.column) (sorts_joins ks s (rights_of g) t p (n + l)) t p n l
-        (sorts_numbers ks s (rights_of g) t) (with_sort k.key.through t n k.key.column) (with_sorts ks t (n + l))
+        let l : ℕ = sort_numbers k.key.through s (granted_of g) t k.key.column in
+        extends_then s w (sort_joins k.key.through s (granted_of g) t p n k.key.column) (sorts_joins ks s (granted_of g) t p (n + l)) t p n l
+        (sorts_numbers ks s (granted_of g) t) (with_sort k.key.through t n k.key.column) (with_sorts ks t (n + l))
         (sort_extends k.key.through t p n k.key.column lt (omega arith))
         (sorts_extend ks t p (n + l) (omega arith) (omega arith))
 
     -- a sort key through relationships takes a number
-    some_number : (through : List ℕ) (t c r : ℕ) (rs : List ℕ) → through ≡ r ∷ rs → 0 < sort_numbers through s (rights_of g) t c
+    some_number : (through : List ℕ) (t c r : ℕ) (rs : List ℕ) → through ≡ r ∷ rs → 0 < sort_numbers through s (granted_of g) t c
     some_number [] t c r rs e = cc
     some_number (q ∷ qs) t c r rs e = omega arith
 
     pub sorts_shown : (ks : List Sort) (look : Look) (t p n : ℕ) (scope e : Scope) (row : Row) → p < n
-        → n + sorts_numbers ks s (rights_of g) t ≤ 2 ^ 64 → Shows s e t p row → Looks look (used_sorts ks) e (shown s g d t row)
-        → ((m : ℕ) → n ≤ m → m < n + sorts_numbers ks s (rights_of g) t → e (join_alias m) ≡ with_sorts ks t n row scope (join_alias m)) → SortsShown ks look t p n e row
+        → n + sorts_numbers ks s (granted_of g) t ≤ 2 ^ 64 → Shows s e t p row → Looks look (used_sorts ks) e (shown s g d t row)
+        → ((m : ℕ) → n ≤ m → m < n + sorts_numbers ks s (granted_of g) t → e (join_alias m) ≡ with_sorts ks t n row scope (join_alias m)) → SortsShown ks look t p n e row
     sorts_shown [] look t p n scope e row lt bound shows l same = tt
     sorts_shown (k ∷ ks) look t p n scope e row lt bound shows l same =
-        let next : ℕ = n + sort_numbers k.key.through s (rights_of g) t k.key.column in
+        let next : ℕ = n + sort_numbers k.key.through s (granted_of g) t k.key.column in
         let rest = sorts_extend ks t p next (omega arith) (omega arith) in
         let used : List ℕ = used_by k.own k.key.through k.key.column in (
           sort_shown k.own k.key.through look t p n k.key.column scope e row shows (looks_left look used (used_sorts ks) e (shown s g d t row) l)

@@ -24,7 +24,7 @@ use Rattle.hq_request_tree.specs.declared.aggregate.KeyedAggCol.{KeyedAggCol}
 use Rattle.hq_request_tree.specs.declared.aggregate.KeyedAggField.{KeyedAggField}
 use Rattle.hq_sql_tree.specs.Tree.{OutTree, pairs_of, PredTree}
 use Rattle.hq_sql_tree.specs.Meaning.{NamedRow, cell_named, Scope, with_alias, World, value, members, outputs, rows_of, truth_at}
-use Rattle.hq_translation.specs.GrantedTables.{rights_of}
+use Rattle.hq_translation.specs.GrantedTables.{granted_of}
 use Rattle.hq_translation.specs.Names.{fold_alias, value_name, needed_name}
 use Rattle.hq_translation.specs.Looks.{Look, is_used, add_new}
 use Rattle.hq_translation.specs.Lists.{children_from, list_numbers}
@@ -202,7 +202,7 @@ module _ (s : Schema) (g : Grants) (d : List (List Row)) (u : ℕ) (columns : Li
 -- ---- the select over the selected rows
 
 module _ (s : Schema) (tables : List Table) (d : List (List Row)) (sound : Sound s tables d) (g : Grants) (u n : ℕ) (a : ListArguments)
-    (fs : List KeyedAggField) (bound : n + (list_numbers s (rights_of g) u (summary_used s u a fs) a + 0) ≤ 2 ^ 64) (scope : Scope) where
+    (fs : List KeyedAggField) (bound : n + (list_numbers s (granted_of g) u (summary_used s u a fs) a + 0) ≤ 2 ^ 64) (scope : Scope) where
   abbrev w : World
   w = record { tables = tables; database = d }
 
@@ -215,12 +215,12 @@ module _ (s : Schema) (tables : List Table) (d : List (List Row)) (sound : Sound
       → is_true
       (truth_at tie w
       (X s tables d sound g u n a (needed fs []) [] 0 none_joined
-      (extends_none s w u n (children_from s (rights_of g) u (summary_used s u a fs) a n)) bound scope far))
+      (extends_none s w u n (children_from s (granted_of g) u (summary_used s u a fs) a n)) bound scope far))
       ≡ tied far)
-      → rows_of (folded_select fs s (rights_of g) u a n tie) w scope
+      → rows_of (folded_select fs s (granted_of g) u a n tie) w scope
       ≡ ((value_name, json (obj (summary_members fs (seen_by s g d) u (limited a.limit (offset_by a.offset (ordered s (seen_by s g d) u a (filter tied (permitted s g d u)))))))) ∷ []) ∷ []
   folded_means tie tied few means =
-      let x = extends_none s w u n (children_from s (rights_of g) u (summary_used s u a fs) a n) in
+      let x = extends_none s w u n (children_from s (granted_of g) u (summary_used s u a fs) a n) in
       let cs : List ℕ = needed fs [] in
       let see : Look = look s tables d sound g u n a cs [] 0 none_joined x bound scope in
       let alone : Row → Scope = X s tables d sound g u n a cs [] 0 none_joined x bound scope in

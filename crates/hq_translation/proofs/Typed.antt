@@ -288,9 +288,9 @@ beyond [] = refl
 beyond (t ∷ ts) = beyond ts
 
 pub statement_typed : (fs : FieldTrees) (tables : List Table) (meta : MetaTree) (g : GrantedTables) → IsTyped fs tables meta g
-statement_typed fs tables meta g catalog rights fine apart bound =
+statement_typed fs tables meta g catalog allowed fine apart bound =
     let s : Schema = schema_of tables meta in
-    let ok = fine_tables tables meta g catalog rights in
+    let ok = fine_tables tables meta g catalog allowed in
     let root : ℕ = length s in
     let scope : Aliases = with_one 0 [] in
     let look : Look = own_look (table s root).columns 0 in

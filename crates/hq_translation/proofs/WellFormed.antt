@@ -57,9 +57,9 @@ unfolding value_name
 has_form fs s g = refl
 
 pub is_well_formed : (fs : FieldTrees) (tables : List Table) (meta : MetaTree) (g : GrantedTables) (F X C : ℕ) → IsWellFormed fs tables meta g F X C
-is_well_formed fs tables meta g F X C catalog rights fine apart bound low short few fits =
+is_well_formed fs tables meta g F X C catalog allowed fine apart bound low short few fits =
     let s : Schema = schema_of tables meta in
-    let keyed = fields_keyed s g tables (fine_tables tables meta g catalog rights) fs (length s) fine in
+    let keyed = fields_keyed s g tables (fine_tables tables meta g catalog allowed) fs (length s) fine in
     let depth : select_depth (statement fs s g) ≤ 2000 = let d = is_shallow fs s g F X C low short in omega (arith, d, few) in
     let shallow : nat_le (select_depth (statement fs s g)) 2000 ≡ true = le-leb (select_depth (statement fs s g)) 2000 depth in
-    rw (has_form fs s g, statement_form fs s g keyed, shallow, aliases_differ fs s g bound, statement_typed fs tables meta g catalog rights fine apart bound, fits) refl
+    rw (has_form fs s g, statement_form fs s g keyed, shallow, aliases_differ fs s g bound, statement_typed fs tables meta g catalog allowed fine apart bound, fits) refl

@@ -14,7 +14,7 @@ use Rattle.hq_model.specs.declared.test.Test.TheVariants.{Compare}
 use Rattle.hq_request_tree.specs.Fields.{FieldTrees, no_field, field, column, list, from_table}
 use Rattle.hq_sql_tree.specs.Spelling.{select_text, quoted}
 use Rattle.hq_sql_tree.specs.Word.{word_text}
-use Rattle.hq_translation.specs.GrantedTables.{rights_of}
+use Rattle.hq_translation.specs.GrantedTables.{granted_of}
 use Rattle.hq_translation.specs.Names.{table_alias, fold_alias, join_alias, value_name, key_name, needed_name, unit_name}
 use Rattle.hq_translation.specs.Statement.{statement}
 
@@ -67,7 +67,7 @@ named =
     (field (codes "id") (column 0) (field (codes "name") (column 1) no_field)))
     no_field
 
-named_text : select_text (statement named schema (rights_of grants))
+named_text : select_text (statement named schema (granted_of grants))
     ≡ codes
     "SELECT json_build_object('author'::text, \"j1\".\"v\") AS \"v\" FROM (SELECT TRUE AS \"u\") AS \"t0\" LEFT JOIN LATERAL (SELECT COALESCE(json_agg(\"s1\".\"v\" ORDER BY \"s1\".\"o0\" ASC NULLS LAST), '[]'::json) AS \"v\" FROM (SELECT json_build_object('id'::text, \"t1\".\"id\", 'name'::text, \"t1\".\"name\") AS \"v\", \"t1\".\"id\" AS \"o0\" FROM \"public\".\"author\" AS \"t1\" WHERE (\"t1\".\"name\" COLLATE \"C\" = 'O''Hara'::text) ORDER BY \"t1\".\"id\" ASC NULLS LAST) AS \"s1\") AS \"j1\" ON TRUE"
 unfolding table_alias fold_alias join_alias value_name key_name needed_name unit_name digits quoted word_text
@@ -77,7 +77,7 @@ named_text = refl
 abbrev authors_by : BexpTree → List ℕ
 authors_by b =
     select_text (statement (field (codes "author") (list (from_table 0) plain (field (codes "id") (column 0) no_field)) no_field) schema
-    (rights_of (Some (record { columns = 0 ∷ []; filter = b; limit = None; aggregations = false; masks = [] }) ∷ [])))
+    (granted_of (Some (record { columns = 0 ∷ []; filter = b; limit = None; aggregations = false; masks = [] }) ∷ [])))
 
 -- rows of a table by themselves: no link, and no filter of the table's own
 rated_text : authors_by (exists_in 1 (test 4 (Compare Gt) (operands.List (Const (val.Int (pos 6)) ∷ [])) false))

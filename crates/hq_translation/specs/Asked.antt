@@ -19,19 +19,19 @@ use Rattle.hq_sql_tree.specs.Tree.{SelectTree}
 use Rattle.hq_sql_tree.specs.WellFormed.{is_statement}
 use Rattle.hq_translation.specs.Correct.{AreFew}
 use Rattle.hq_translation.specs.Fields.{fields_numbers}
-use Rattle.hq_translation.specs.GrantedTables.{GrantedTables, rights_of}
+use Rattle.hq_translation.specs.GrantedTables.{GrantedTables, granted_of}
 use Rattle.hq_translation.specs.Statement.{statement}
 
 -- what a request grants
-abbrev pub asked_rights : List Table → MetaTree → AskTree → GrantedTables
-asked_rights tables m a = rights_of (grants_in a m (schema_of tables m))
+abbrev pub asked_granted : List Table → MetaTree → AskTree → GrantedTables
+asked_granted tables m a = granted_of (grants_in a m (schema_of tables m))
 
 -- its statement, and how many numbers this takes
 abbrev pub asked_statement : List Table → MetaTree → AskTree → SelectTree
-asked_statement tables m a = statement (table_fields a.fields) (schema_of tables m) (asked_rights tables m a)
+asked_statement tables m a = statement (table_fields a.fields) (schema_of tables m) (asked_granted tables m a)
 
 abbrev pub asked_numbers : List Table → MetaTree → AskTree → ℕ
-asked_numbers tables m a = 1 + fields_numbers (table_fields a.fields) (schema_of tables m) (asked_rights tables m a) (length (schema_of tables m))
+asked_numbers tables m a = 1 + fields_numbers (table_fields a.fields) (schema_of tables m) (asked_granted tables m a) (length (schema_of tables m))
 
 -- a request with its table fields alone
 abbrev pub table_request : AskTree → AskTree

@@ -12,7 +12,7 @@ use Rattle.hq_sql_tree.specs.Form.{is_select}
 use Rattle.hq_sql_tree.specs.Meaning.{meaning}
 use Rattle.hq_sql_tree.specs.WellFormed.{aliases_in}
 use Rattle.hq_base.specs.Lists.{all_differ}
-use Rattle.hq_translation.specs.GrantedTables.{GrantedTables, rights_of}
+use Rattle.hq_translation.specs.GrantedTables.{GrantedTables, granted_of}
 use Rattle.hq_translation.specs.Lists.{list_sorts}
 use Rattle.hq_translation.specs.Aggregates.{needed}
 use Rattle.hq_translation.specs.Fields.{fields_numbers}
@@ -47,8 +47,8 @@ abbrev mutual
 abbrev pub MeansResolved : FieldTrees → List Table → MetaTree → Grants → List (List Row) → Type 0
 MeansResolved fs tables meta g d =
     let s = schema_of tables meta in
-    is_catalog tables ≡ true → is_database tables d ≡ true → 1 + fields_numbers fs s (rights_of g) (length s) ≤ 2 ^ 64 → AreFew fs s (length s) →
-    meaning (statement fs s (rights_of g)) (record { tables = tables; database = d }) ≡ resolved fs s g d
+    is_catalog tables ≡ true → is_database tables d ≡ true → 1 + fields_numbers fs s (granted_of g) (length s) ≤ 2 ^ 64 → AreFew fs s (length s) →
+    meaning (statement fs s (granted_of g)) (record { tables = tables; database = d }) ≡ resolved fs s g d
 
 -- No two things of the statement that have an alias have the same one.
 abbrev pub AliasesDiffer : FieldTrees → Schema → GrantedTables → Type 0

@@ -103,7 +103,7 @@ abbrev pub FineMask : Schema → (t : ℕ) → Mask → Type 0
 FineMask s t m = Has s t m.column × FineBexp m.shown s t
 
 -- what is granted of a table fits it
-pub record FineRights (s : Schema) (g : GrantedTables) (t : ℕ) : Type 0 where
+pub record FineGranted (s : Schema) (g : GrantedTables) (t : ℕ) : Type 0 where
   pub filter : FineBexp (g.filter t) s t
   pub masks : Each (FineMask s t) (g.masks t)
 
@@ -192,5 +192,5 @@ abbrev mutual
 abbrev pub IsTyped : FieldTrees → List Table → MetaTree → GrantedTables → Type 0
 IsTyped fs tables meta g =
     let s = schema_of tables meta in
-    is_catalog tables ≡ true → ((t : ℕ) → Known s t → FineRights s g t) → FineFields fs s (length s) → Apart fs → 1 + fields_numbers fs s g (length s) ≤ 2 ^ 64 →
+    is_catalog tables ≡ true → ((t : ℕ) → Known s t → FineGranted s g t) → FineFields fs s (length s) → Apart fs → 1 + fields_numbers fs s g (length s) ≤ 2 ^ 64 →
     is_typed (statement fs s g) tables [] ≡ true

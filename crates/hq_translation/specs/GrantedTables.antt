@@ -10,8 +10,8 @@ pub record GrantedTables : Type 0 where
   pub limit : (table : ℕ) → Option ℕ
   pub masks : (table : ℕ) → List Mask
 
-abbrev pub rights_of : Grants → GrantedTables
-rights_of g = record {
+abbrev pub granted_of : Grants → GrantedTables
+granted_of g = record {
   filter = λ t. (grant g t).filter;
   limit = λ t. (grant g t).limit;
   masks = λ t. (grant g t).masks;

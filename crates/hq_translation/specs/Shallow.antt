@@ -35,8 +35,8 @@ abbrev mutual
   part_height (part_typename name) = 0
 
 -- the filters and the masks are nested at most F deep
-abbrev pub LowRights : GrantedTables → (F : ℕ) → Type 0
-LowRights g F = ((t : ℕ) → depth (g.filter t) ≤ F) × ((t : ℕ) → Each (λ m. depth m.shown ≤ F) (g.masks t))
+abbrev pub LowGranted : GrantedTables → (F : ℕ) → Type 0
+LowGranted g F = ((t : ℕ) → depth (g.filter t) ≤ F) × ((t : ℕ) → Each (λ m. depth m.shown ≤ F) (g.masks t))
 
 -- a `where` is nested at most X deep, and sorts go through at most C relationships
 abbrev pub AreShort : ListArguments → (X C : ℕ) → Type 0
@@ -68,4 +68,4 @@ abbrev mutual
 
 -- The statement opens at most two parentheses for each level of fields, and so many more.
 abbrev pub IsShallow : FieldTrees → Schema → GrantedTables → (F X C : ℕ) → Type 0
-IsShallow fs s g F X C = LowRights g F → AreLow fs X C → select_depth (statement fs s g) ≤ 2 * fields_height fs + (2 * X + 2 * F + C + 6)
+IsShallow fs s g F X C = LowGranted g F → AreLow fs X C → select_depth (statement fs s g) ≤ 2 * fields_height fs + (2 * X + 2 * F + C + 6)

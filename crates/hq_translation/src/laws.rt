@@ -19,27 +19,27 @@ pub fn statements_mean_resolved()
 
 /// The law: no two tables, groups and joins of the statement have the same alias, at whatever depth they stand.
 pub fn aliases_differ()
-    ensures { (fields : FieldTrees) (schema : Schema) (rights : GrantedTables) → AliasesDiffer fields schema rights }
+    ensures { (fields : FieldTrees) (schema : Schema) (granted : GrantedTables) → AliasesDiffer fields schema granted }
 {}
 
 /// The law: the statement is a tree of SQL's grammar, where each list is one of a table that has a key.
 pub fn statement_is_grammatical()
-    ensures { (fields : FieldTrees) (schema : Schema) (rights : GrantedTables) → IsGrammatical fields schema rights }
+    ensures { (fields : FieldTrees) (schema : Schema) (granted : GrantedTables) → IsGrammatical fields schema granted }
 {}
 
 /// The law: the statement opens few parentheses at once.
 pub fn statement_is_shallow()
-    ensures { (fields : FieldTrees) (schema : Schema) (rights : GrantedTables) (filters conditions chains : ℕ) → IsShallow fields schema rights filters conditions chains }
+    ensures { (fields : FieldTrees) (schema : Schema) (granted : GrantedTables) (filters conditions chains : ℕ) → IsShallow fields schema granted filters conditions chains }
 {}
 
 /// The law: each part of the statement has its type in scope.
 pub fn statement_is_typed()
-    ensures { (fields : FieldTrees) (tables : Items Table) (meta : MetaTree) (rights : GrantedTables) → IsTyped fields tables meta rights }
+    ensures { (fields : FieldTrees) (tables : Items Table) (meta : MetaTree) (granted : GrantedTables) → IsTyped fields tables meta granted }
 {}
 
 /// The law: the statement is well-formed for the catalog, where its fields are of the catalog and nested few enough, and a tree
 /// can hold its texts and numbers.
 pub fn statement_is_well_formed()
-    ensures { (fields : FieldTrees) (tables : Items Table) (meta : MetaTree) (rights : GrantedTables) (filters conditions chains : ℕ)
-        → IsWellFormed fields tables meta rights filters conditions chains }
+    ensures { (fields : FieldTrees) (tables : Items Table) (meta : MetaTree) (granted : GrantedTables) (filters conditions chains : ℕ)
+        → IsWellFormed fields tables meta granted filters conditions chains }
 {}

@@ -25,7 +25,7 @@ use Rattle.hq_sql_tree.specs.Tree.{ExprTree, OrderTree, OutTree, SelectTree, Joi
 use Rattle.hq_sql_tree.specs.Meaning.{NamedRow, cell_named, Scope, with_alias, World, named_row, rows_named, value, order_cmp, distinct_on, limited, offset_by, outputs, or_null_row, has_rows, rows_of, joined, kept, truth_at, all_true, any_true}
 use Rattle.hq_translation.specs.Masks.{filter_numbers}
 use Rattle.hq_translation.specs.Predicates.{own_numbers}
-use Rattle.hq_translation.specs.GrantedTables.{rights_of}
+use Rattle.hq_translation.specs.GrantedTables.{granted_of}
 use Rattle.hq_translation.proofs.Names.{same_text, Narrow}
 use Rattle.hq_confine_rules.specs.Conjuncts.{opened, all_opened, conjuncts}
 use Rattle.hq_confine_rules.specs.Faults.{outputs_of, joined_shapes, is_exempt, is_unordered, scan_faults, select_faults, joins_faults, where_faults, conjunct_faults, conjuncts_faults, pred_faults, preds_faults}
@@ -59,7 +59,7 @@ fresh_shape s g a (tree.join q b js) k scope =
 
 -- ---- the rows of a scan that count
 
-module _ (s : Schema) (g : Grants) (tables : List Table) (d : List (List Row)) (base : Base s tables d) (filters : (t : ℕ) → 1 + filter_numbers s (rights_of g) t ≤ 2 ^ 64) where
+module _ (s : Schema) (g : Grants) (tables : List Table) (d : List (List Row)) (base : Base s tables d) (filters : (t : ℕ) → 1 + filter_numbers s (granted_of g) t ≤ 2 ^ 64) where
   pub narrow_rows : (t : ℕ) → Each (Narrow s t) (by_key s d t)
   narrow_rows t = each_sort (columns_cmp (table s t).key) (Narrow s t) (table_rows d t) (base.sound.narrow t)
 
@@ -129,7 +129,7 @@ null_cond : (b : Bool) → cond b null null ≡ null
 null_cond true = refl
 null_cond false = refl
 
-module _ (s : Schema) (g : Grants) (tables : List Table) (d e : List (List Row)) (bd : Base s tables d) (be : Base s tables e) (filters : (t : ℕ) → 1 + filter_numbers s (rights_of g) t ≤ 2 ^ 64)
+module _ (s : Schema) (g : Grants) (tables : List Table) (d e : List (List Row)) (bd : Base s tables d) (be : Base s tables e) (filters : (t : ℕ) → 1 + filter_numbers s (granted_of g) t ≤ 2 ^ 64)
     (masks : (t c : ℕ) → 1 + own_numbers (mask_of (grant g t).masks c) s t ≤ 2 ^ 64) (o : Alike s g d e) where
   abbrev V : World
   V = key_world s tables d

@@ -28,7 +28,7 @@ use Rattle.hq_translation.specs.Asked.{table_request, TablesAsked}
 use Rattle.hq_translation.specs.Correct.{AreFew}
 use Rattle.hq_translation.specs.Fields.{fields_numbers}
 use Rattle.hq_translation.specs.Fine.{Has}
-use Rattle.hq_translation.specs.GrantedTables.{rights_of}
+use Rattle.hq_translation.specs.GrantedTables.{granted_of}
 use Rattle.hq_confine_rules.specs.Faults.{faults}
 use Rattle.hq_confine_rules.specs.Laws.{AsksConfined}
 use Rattle.hq_confine_rules.specs.Members.{is_permitted}
@@ -94,5 +94,5 @@ asks_confined tables m session a asked fit law catalog fitting request is held =
     let same : Each (λ t. grant given t ≡ grant g t) (tables_of fs s (length s)) =
     each_weaken (Touches tables m session a) (λ t. grant given t ≡ grant g t) (same_grant tables m session a) (tables_of fs s (length s)) touched in
     let allowed : AllowedFields fs s g (length s) = asks_allowed tables m session a catalog fitting fit is.role fs uses touched held.1 in
-    let small : 1 + fields_numbers fs s (rights_of g) (length s) ≤ 2 ^ 64 = subst (λ n. 1 + n ≤ 2 ^ 64) (fields_numbers_same s given g fs (length s) same) held.0 in
+    let small : 1 + fields_numbers fs s (granted_of g) (length s) ≤ 2 ^ 64 = subst (λ n. 1 + n ≤ 2 ^ 64) (fields_numbers_same s given g fs (length s) same) held.0 in
     ap (faults s g) (statement_same s given g fs same) ∙ law fs s g allowed small

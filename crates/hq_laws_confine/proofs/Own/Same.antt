@@ -21,7 +21,7 @@ use Rattle.hq_translation.specs.Looks.{Look, own_look, cell_at}
 use Rattle.hq_translation.specs.Masks.{extra, masks, shown_look, filter_numbers, filter_predicate, value_output, where_mode}
 use Rattle.hq_translation.specs.Names.{table_alias, fold_alias, join_alias, value_name, key_name}
 use Rattle.hq_translation.specs.Predicates.{link, columns_in, inner_from, numbers, numbers_all, predicate, predicates, counted_rows}
-use Rattle.hq_translation.specs.GrantedTables.{GrantedTables, rights_of}
+use Rattle.hq_translation.specs.GrantedTables.{GrantedTables, granted_of}
 use Rattle.hq_translation.specs.Selects.{filter_from, behind_filter, first_select}
 use Rattle.hq_translation.specs.Sorts.{Sort, shown_sorts, own_sorts, last_used, sort_form, sort_place, sort_numbers, sort_joins, sorts_numbers, sorts_joins, orders, key_outputs, output_orders}
 use Rattle.hq_translation.specs.Statement.{statement}
@@ -35,16 +35,16 @@ pub second_each : {A : Type 0} (P : A → Type 0) (xs ys : List A) → Each P (x
 second_each P [] ys h = h
 second_each P (x ∷ xs) ys h = second_each P xs ys h.1
 
--- the rights of this permission, at every table
+-- this permission as what is granted, at every table
 abbrev pub by : Permission → GrantedTables
 by p = record { filter = λ t. p.filter; limit = λ t. p.limit; masks = λ t. p.masks }
 
 module _ (s : Schema) (g h : Grants) where
   abbrev G : GrantedTables
-  G = rights_of g
+  G = granted_of g
 
   abbrev H : GrantedTables
-  H = rights_of h
+  H = granted_of h
 
   -- the grants are the same on a table, and on tables
   abbrev pub Same : ℕ → Type 0

@@ -5,7 +5,7 @@ use Rattle.hq_base.specs.Due.{mapped, and_then}
 use Rattle.hq_base.specs.Lists.{Each}
 use Rattle.hq_request_tree.specs.Request.{BoundTree}
 use Rattle.hq_request_build.specs.Bound.{of_table, bound_of, bound_due, bounds_due}
-use Rattle.hq_model.specs.Bexp.{always, or_of, no_bexp}
+use Rattle.hq_model.specs.Bexp.{always, never}
 use Rattle.hq_model.specs.Binding.{bound_permission}
 use Rattle.hq_model.specs.Fits.{fits}
 use Rattle.hq_model.specs.Meta.{MetaTree, TrackedTree, tracked_table}
@@ -49,7 +49,7 @@ session_binds role m s vars none t = go (permission role m t) refl
         (of_table o.entry.table q.0, ap (λ w. bound_of w s vars o.entry.table) is.seen ∙ ap (mapped (of_table o.entry.table)) q.1)
 
     go : (w : Option Permission) → permission role m t ≡ w → Binds role m s vars t
-    go None is = (record { table = t; filter = or_of no_bexp; masks = [] }, ap (λ w. bound_of w s vars t) is)
+    go None is = (record { table = t; filter = never; masks = [] }, ap (λ w. bound_of w s vars t) is)
     go (Some p) is = by_source role m (Binds role m s vars) each t (ap is_some is)
 
 -- ---- the reader's
@@ -90,5 +90,5 @@ module _ (tables : List Table) (m : MetaTree) (role : Role) (fit : fits tables m
           of_source found.1 (subst (λ j. slice_get (sources role m) j ≡ Some found.1) same found.2)
 
       go : (w : Option Permission) → permission (Named reader) (copied_meta role m s) t ≡ w → Binds (Named reader) (copied_meta role m s) (copied_schema role m s) vars t
-      go None is = (record { table = t; filter = or_of no_bexp; masks = [] }, ap (λ w. bound_of w (copied_schema role m s) vars t) is)
+      go None is = (record { table = t; filter = never; masks = [] }, ap (λ w. bound_of w (copied_schema role m s) vars t) is)
       go (Some p) is = of_entry (tracked_table (copied_meta role m s) t) refl p is

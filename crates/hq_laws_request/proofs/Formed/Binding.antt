@@ -9,7 +9,7 @@ use Rattle.hq_base.specs.Refused.{text_of}
 use Rattle.hq_base.specs.Lists.{Each}
 use Rattle.hq_base.specs.declared.value.Ty.{Ty}
 use Rattle.hq_base.specs.declared.value.Val.{Val}
-use Rattle.hq_model.specs.Bexp.{BexpTree, always, and_of, or_of, not_of, test, through, exists_in, two_columns, BexpTrees, no_bexp, bexp, operands_of, bexps_of, depth, depth_of_all}
+use Rattle.hq_model.specs.Bexp.{BexpTree, always, and_of, or_of, not_of, test, through, exists_in, two_columns, BexpTrees, no_bexp, bexp, operands_of, bexps_of, depth, depth_of_all, never}
 use Rattle.hq_model.specs.Binding.{variable, constant, constant_of, bound_operand, bound_each, constants, constants_of, bound_operands, bound, bound_all, bound_masks, bound_permission}
 use Rattle.hq_model.specs.Filters.{column_ty, test_fits, operand_fits, is_test, of_type, is_filter, are_filters}
 use Rattle.hq_model.specs.Fits.{fits}
@@ -262,7 +262,7 @@ module _ (tables : List Table) (m : MetaTree) (metadata_fits : fits tables m ≡
   entry_bound t b e = by (permission role m t) refl e
     where
       by : (o : Option Permission) → permission role m t ≡ o → bound_of o s vars t ≡ Ok b → is_bound_table s b ≡ true
-      by None is e = let none : BoundTree = record { table = t; filter = or_of no_bexp; masks = [] } in let same : none ≡ b = cc in subst (λ x. is_bound_table s x ≡ true) same refl
+      by None is e = let none : BoundTree = record { table = t; filter = never; masks = [] } in let same : none ≡ b = cc in subst (λ x. is_bound_table s x ≡ true) same refl
       by (Some p) is e =
           let one = mapped_ok (of_table t) (bound_permission p s vars t) b e in
           subst (λ x. is_bound_table s x ≡ true) one.2 (permission_bound t p one.0 (permission_fits tables m role t metadata_fits p is) one.1)

@@ -10,7 +10,7 @@ use Rattle.hq_sql_tree.specs.View.{pair_view, join_view}
 use Rattle.hq_sql_tree.specs.declared.expr.ExprPair.{ExprPair}
 use Rattle.hq_sql_tree.specs.declared.select.Join.{Join}
 use Rattle.hq_translation.specs.Fields.{field_value, field_numbers, fields_numbers, field_joins, fields_values, fields_joins, part_value, part_numbers, parts_numbers, parts_values, part_joins, parts_joins}
-use Rattle.hq_compile_tables.specs.Contexts.{context_schema, context_rights}
+use Rattle.hq_compile_tables.specs.Contexts.{context_schema, context_granted}
 use Rattle.hq_compile_tables.specs.Shown.{look_in}
 use Rattle.hq_compile_tables.specs.declared.shown.MaskPlace.{MaskPlace}
 use Rattle.hq_compile_lists.specs.Starts.{start_origin, start_table, start_tie}
@@ -24,7 +24,7 @@ use Rattle.hq_compile.proofs.fields.+fields.Goals as goal
 pub first_join-returns-clause-join : goal.first_join-returns-clause-join
 first_join-returns-clause-join t c =
     let s = context_schema c.args.context.now in
-    let g = context_rights c.args.context.now in
+    let g = context_granted c.args.context.now in
     let fs = fields_view c.args.fields.now.items in
     let first = c.args.first in
     let look = λ (places : List MaskPlace). look_in places (table s first.table).columns first.number in
@@ -40,7 +40,7 @@ first_join-returns-clause-join t c =
 pub object_join-returns-clause-join : goal.object_join-returns-clause-join
 object_join-returns-clause-join t c =
     let s = context_schema c.args.context.now in
-    let g = context_rights c.args.context.now in
+    let g = context_granted c.args.context.now in
     let first = c.in_ok-first.first in
     let is_first = c.in_ok-first.ensures in
     IfOk-weaker c.first_join.result _ _
@@ -52,7 +52,7 @@ object_join-returns-clause-join t c =
 pub object_join-returns-clause-numbers : goal.object_join-returns-clause-numbers
 object_join-returns-clause-numbers t c =
     let s = context_schema c.args.context.now in
-    let g = context_rights c.args.context.now in
+    let g = context_granted c.args.context.now in
     let first = c.in_ok-first.first in
     let is_first = c.in_ok-first.ensures in
     on_ok_weaker c.first_join.result
@@ -64,7 +64,7 @@ object_join-returns-clause-numbers t c =
 pub key_join-returns-clause-join : goal.key_join-returns-clause-join
 key_join-returns-clause-join t c =
     let s = context_schema c.args.context.now in
-    let g = context_rights c.args.context.now in
+    let g = context_granted c.args.context.now in
     let first = c.in_ok-first.first in
     let is_first = c.in_ok-first.ensures in
     IfOk-weaker c.first_join.result _ _
@@ -76,7 +76,7 @@ key_join-returns-clause-join t c =
 pub key_join-returns-clause-numbers : goal.key_join-returns-clause-numbers
 key_join-returns-clause-numbers t c =
     let s = context_schema c.args.context.now in
-    let g = context_rights c.args.context.now in
+    let g = context_granted c.args.context.now in
     let first = c.in_ok-first.first in
     let is_first = c.in_ok-first.ensures in
     on_ok_weaker c.first_join.result
@@ -88,7 +88,7 @@ key_join-returns-clause-numbers t c =
 pub list_join-returns-clause-join : goal.list_join-returns-clause-join
 list_join-returns-clause-join t c =
     let s = context_schema c.args.context.now in
-    let g = context_rights c.args.context.now in
+    let g = context_granted c.args.context.now in
     let l = c.args.start.now in
     let a = arguments_view l.args.now in
     let fs = fields_view c.args.fields.now.items in
@@ -110,7 +110,7 @@ list_join-returns-clause-join t c =
 pub list_join-returns-clause-numbers : goal.list_join-returns-clause-numbers
 list_join-returns-clause-numbers t c =
     let s = context_schema c.args.context.now in
-    let g = context_rights c.args.context.now in
+    let g = context_granted c.args.context.now in
     let l = c.args.start.now in
     IfOk-weaker c.one_join.result _ _
     (λ join is. list_numbers_of s g (fields_view c.args.fields.now.items) (start_origin l) (arguments_view l.args.now) l.row_table
@@ -123,7 +123,7 @@ list_join-returns-clause-numbers t c =
 pub push_joins-returns-in_ok-join-in-List-clause-joins : goal.push_joins-returns-in_ok-join-in-List-clause-joins
 push_joins-returns-in_ok-join-in-List-clause-joins t c =
     let s = context_schema c.args.context.now in
-    let g = context_rights c.args.context.now in
+    let g = context_granted c.args.context.now in
     let n = c.args.next.now in
     let l = c.in-List in
     let joins : List JoinTree = map join_view c.args.joins.now.items in
@@ -135,7 +135,7 @@ push_joins-returns-in_ok-join-in-List-clause-joins t c =
 pub push_joins-returns-in_ok-join-in-List-clause-numbers : goal.push_joins-returns-in_ok-join-in-List-clause-numbers
 push_joins-returns-in_ok-join-in-List-clause-numbers t c =
     let s = context_schema c.args.context.now in
-    let g = context_rights c.args.context.now in
+    let g = context_granted c.args.context.now in
     let n = c.args.next.now in
     let l = c.in-List in
     let seen = ap field_view l.is ∙ list_seen l.table l.rel l.args l.fields in
@@ -145,7 +145,7 @@ push_joins-returns-in_ok-join-in-List-clause-numbers t c =
 pub push_fields-loop-keyed-preserved : goal.push_fields-loop-keyed-preserved
 push_fields-loop-keyed-preserved t c =
     let s = context_schema c.args.context.now in
-    let g = context_rights c.args.context.now in
+    let g = context_granted c.args.context.now in
     let u = c.args.t in
     let p = c.args.p in
     let look = look_in c.args.places.now (table s u).columns p in
@@ -177,7 +177,7 @@ push_fields-loop-keyed-preserved t c =
 pub push_parts-loop-keyed-preserved : goal.push_parts-loop-keyed-preserved
 push_parts-loop-keyed-preserved t c =
     let s = context_schema c.args.context.now in
-    let g = context_rights c.args.context.now in
+    let g = context_granted c.args.context.now in
     let l = c.args.start.now in
     let o = start_origin l in
     let u = start_table s l in

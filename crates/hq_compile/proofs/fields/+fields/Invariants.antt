@@ -4,7 +4,7 @@ use Rattle.hq_request_tree.specs.Arguments.{arguments_view}
 use Rattle.hq_sql_tree.specs.View.{pair_view, join_view}
 use Rattle.hq_translation.specs.Fields.{fields_numbers, fields_values, fields_joins, parts_numbers, parts_values, parts_joins}
 use Rattle.hq_translation.specs.GrantedTables.{GrantedTables}
-use Rattle.hq_compile_tables.specs.Contexts.{context_schema, context_rights}
+use Rattle.hq_compile_tables.specs.Contexts.{context_schema, context_granted}
 use Rattle.hq_compile_tables.specs.Shown.{look_in}
 use Rattle.hq_compile_lists.specs.Starts.{start_origin, start_table}
 use Rattle.hq_compile.specs.Fields.{fields_view, parts_view}
@@ -14,7 +14,7 @@ use Rattle.hq_compile.proofs.fields.+fields.Given as goal
 abbrev pub invariant-push_fields-loop-keyed : goal.invariant-push_fields-loop-keyed
 invariant-push_fields-loop-keyed l =
     let s : Schema = context_schema l.context in
-    let g : GrantedTables = context_rights l.context in
+    let g : GrantedTables = context_granted l.context in
     let rest = fields_view (drop l.keyed-index l.keyed-items) in
     let all = fields_view l.keyed-items in
     let look = look_in l.places (table s l.t).columns l.p in
@@ -27,7 +27,7 @@ invariant-push_fields-loop-keyed l =
 abbrev pub invariant-push_parts-loop-keyed : goal.invariant-push_parts-loop-keyed
 invariant-push_parts-loop-keyed l =
     let s : Schema = context_schema l.context in
-    let g : GrantedTables = context_rights l.context in
+    let g : GrantedTables = context_granted l.context in
     let rest = parts_view (drop l.keyed-index l.keyed-items) in
     let all = parts_view l.keyed-items in
     let u = start_table s l.start in

@@ -4,7 +4,7 @@ use Rattle.hq_request_tree.specs.Root.{table_fields}
 use Rattle.hq_request_tree.specs.declared.field.KeyedAskField.{KeyedAskField}
 use Rattle.hq_sql_tree.specs.View.{pair_view, join_view}
 use Rattle.hq_translation.specs.Fields.{fields_numbers, fields_joins}
-use Rattle.hq_compile_tables.specs.Contexts.{context_schema, context_rights}
+use Rattle.hq_compile_tables.specs.Contexts.{context_schema, context_granted}
 use Rattle.hq_compile.proofs.RootFields.{one_more, root_values, root_numbers, numbers_step, values_step, joins_step}
 use Rattle.hq_compile.specs.Fields.{fields_view}
 use Rattle.hq_compile.proofs.fields.root_row.Goals as goal
@@ -13,7 +13,7 @@ use Rattle.hq_compile.proofs.fields.root_row.Goals as goal
 pub loop-keyed-preserved : goal.loop-keyed-preserved
 loop-keyed-preserved c =
     let s = context_schema c.args.context.now in
-    let g = context_rights c.args.context.now in
+    let g = context_granted c.args.context.now in
     let items = c.deref-keyed-items.result.now in
     let i = c.loop-keyed.keyed-index in
     let k = c.keyed-item.result in

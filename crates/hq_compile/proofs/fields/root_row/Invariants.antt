@@ -5,7 +5,7 @@ use Rattle.hq_sql_tree.specs.View.{pair_view, join_view}
 use Rattle.hq_translation.specs.Fields.{fields_numbers, fields_values, fields_joins}
 use Rattle.hq_translation.specs.Looks.{own_look}
 use Rattle.hq_translation.specs.GrantedTables.{GrantedTables}
-use Rattle.hq_compile_tables.specs.Contexts.{context_schema, context_rights}
+use Rattle.hq_compile_tables.specs.Contexts.{context_schema, context_granted}
 use Rattle.hq_compile.specs.Fields.{fields_view}
 use Rattle.hq_compile.proofs.fields.root_row.Given as goal
 
@@ -13,7 +13,7 @@ use Rattle.hq_compile.proofs.fields.root_row.Given as goal
 abbrev pub invariant-loop-keyed : goal.invariant-loop-keyed
 invariant-loop-keyed l =
     let s : Schema = context_schema l.context in
-    let g : GrantedTables = context_rights l.context in
+    let g : GrantedTables = context_granted l.context in
     let rest = table_fields (fields_view (drop l.keyed-index l.keyed-items)) in
     let all = table_fields (fields_view l.keyed-items) in
     let look = own_look (table s l.root).columns 0 in

@@ -2,7 +2,7 @@ use Rattle.std.proofs.Common.{refl}
 use Rattle.std.proofs.lemmas.Result.{IfOk-weaker}
 use Rattle.hq_request_tree.specs.Arguments.{arguments_view}
 use Rattle.hq_sql_tree.specs.View.{join_view}
-use Rattle.hq_compile_tables.specs.Contexts.{context_schema, context_rights}
+use Rattle.hq_compile_tables.specs.Contexts.{context_schema, context_granted}
 use Rattle.hq_compile_lists.specs.Starts.{start_origin}
 use Rattle.hq_compile.proofs.Joins.{summary_of}
 use Rattle.hq_compile.proofs.fields.summary_join.Goals as goal
@@ -11,7 +11,7 @@ use Rattle.hq_compile.proofs.fields.summary_join.Goals as goal
 pub returns-clause-join : goal.returns-clause-join
 returns-clause-join c =
     let s = context_schema c.args.context.now in
-    let g = context_rights c.args.context.now in
+    let g = context_granted c.args.context.now in
     let l = c.args.start.now in
     IfOk-weaker c.one_join.result _ _
     (λ join is. summary_of s g (start_origin l) (arguments_view l.args.now) c.args.fields.now l.row_table l.row_number c.args.next.now c.list_table-table.result c.in_ok-n.n _ _ _ (join_view join)

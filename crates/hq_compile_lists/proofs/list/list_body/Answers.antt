@@ -1,7 +1,7 @@
 use Rattle.std.proofs.Common.{◌∙◌, List, ap}
 use Rattle.hq_model.specs.Schema.{table}
 use Rattle.hq_request_tree.specs.Arguments.{arguments_view}
-use Rattle.hq_compile_tables.specs.Contexts.{context_schema, context_rights}
+use Rattle.hq_compile_tables.specs.Contexts.{context_schema, context_granted}
 use Rattle.hq_compile_tables.specs.Shown.{look_in}
 use Rattle.hq_compile_tables.specs.declared.shown.MaskPlace.{MaskPlace}
 use Rattle.hq_compile_lists.specs.Starts.{start_tie}
@@ -12,7 +12,7 @@ use Rattle.hq_compile_lists.proofs.list.list_body.Goals as goal
 pub returns-clause-body : goal.returns-clause-body
 returns-clause-body c =
     let s = context_schema c.args.context.now in
-    let g = context_rights c.args.context.now in
+    let g = context_granted c.args.context.now in
     let t = c.args.t in
     let n = c.args.n in
     let a = arguments_view c.args.start.now.args.now in

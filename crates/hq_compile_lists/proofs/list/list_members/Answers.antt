@@ -6,7 +6,7 @@ use Rattle.hq_sql_tree.specs.Tree.{PredTree}
 use Rattle.hq_translation.specs.Conditions.{with_member}
 use Rattle.hq_translation.specs.Masks.{filter_numbers, filter_predicate, where_mode}
 use Rattle.hq_translation.specs.Predicates.{predicate}
-use Rattle.hq_compile_tables.specs.Contexts.{context_schema, context_rights}
+use Rattle.hq_compile_tables.specs.Contexts.{context_schema, context_granted}
 use Rattle.hq_compile_tables.proofs.Members.{three_members}
 use Rattle.hq_compile_tables.specs.Shown.{look_in}
 use Rattle.hq_compile_lists.specs.Starts.{start_tie}
@@ -16,7 +16,7 @@ use Rattle.hq_compile_lists.proofs.list.list_members.Goals as goal
 pub returns-clause-members : goal.returns-clause-members
 returns-clause-members c =
     let s = context_schema c.args.context.now in
-    let g = context_rights c.args.context.now in
+    let g = context_granted c.args.context.now in
     let t = c.args.t in
     let n = c.args.n in
     let tie = start_tie s c.args.start.now n in

@@ -5,7 +5,7 @@ use Rattle.hq_sql_tree.specs.Tree.{OutTree, object, pairs_of}
 use Rattle.hq_sql_tree.specs.View.{join_view, pair_view, select_view}
 use Rattle.hq_translation.specs.Lists.{list_outputs}
 use Rattle.hq_translation.specs.Names.{value_name}
-use Rattle.hq_compile_tables.specs.Contexts.{context_schema, context_rights}
+use Rattle.hq_compile_tables.specs.Contexts.{context_schema, context_granted}
 use Rattle.hq_compile_lists.specs.Bodies.{rows_of}
 use Rattle.hq_compile_lists.proofs.Selects.{list_of}
 use Rattle.hq_compile_lists.proofs.list.list_select.Goals as goal
@@ -14,7 +14,7 @@ use Rattle.hq_compile_lists.proofs.list.list_select.Goals as goal
 pub returns : goal.returns
 returns c = λ cs tie is.
     let s = context_schema c.args.context.now in
-    let g = context_rights c.args.context.now in
+    let g = context_granted c.args.context.now in
     let t = c.args.t in
     let n = c.args.n in
     let a = arguments_view c.args.args.now in

@@ -2,7 +2,7 @@ use Rattle.std.proofs.Common.{◌∙◌, ℕ, List, map, ap}
 use Rattle.std.proofs.lemmas.Result.{IfOk-weaker}
 use Rattle.hq_sql_tree.specs.View.{join_view}
 use Rattle.hq_translation.specs.Sorts.{sort_joins}
-use Rattle.hq_compile_tables.specs.Contexts.{context_schema, context_rights}
+use Rattle.hq_compile_tables.specs.Contexts.{context_schema, context_granted}
 use Rattle.hq_compile_lists.proofs.Steps.{first_and_rest, step_of}
 use Rattle.hq_compile_lists.proofs.order.+sort_joins.Goals as goal
 
@@ -10,7 +10,7 @@ use Rattle.hq_compile_lists.proofs.order.+sort_joins.Goals as goal
 pub returns-in_ok-inner-in-len1-up-clause-joins : goal.returns-in_ok-inner-in-len1-up-clause-joins
 returns-in_ok-inner-in-len1-up-clause-joins t c =
     let s = context_schema c.args.context.now in
-    let g = context_rights c.args.context.now in
+    let g = context_granted c.args.context.now in
     let first = c.in_ok-first-in-len1-up.first in
     let is_first = c.in_ok-first-in-len1-up.ensures in
     let column = c.args.column in

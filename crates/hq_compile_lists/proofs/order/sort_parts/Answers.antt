@@ -3,7 +3,7 @@ use Rattle.std.proofs.lemmas.List.{append-nil, at_drop_all}
 use Rattle.hq_model.specs.Schema.{table}
 use Rattle.hq_sql_tree.specs.View.{join_view, order_view, out_view}
 use Rattle.hq_translation.specs.Sorts.{sort_numbers, sort_joins, sorts_numbers, sorts_joins, orders, key_outputs}
-use Rattle.hq_compile_tables.specs.Contexts.{context_schema, context_rights}
+use Rattle.hq_compile_tables.specs.Contexts.{context_schema, context_granted}
 use Rattle.hq_compile_tables.specs.Shown.{look_in}
 use Rattle.hq_compile_tables.proofs.Loops.{rest-more, count-more}
 use Rattle.hq_compile_lists.specs.declared.sorts.RowSort.{RowSort}
@@ -14,7 +14,7 @@ use Rattle.hq_compile_lists.proofs.order.sort_parts.Goals as goal
 pub loop-i-preserved : goal.loop-i-preserved
 loop-i-preserved c =
     let s = context_schema c.args.context.now in
-    let g = context_rights c.args.context.now in
+    let g = context_granted c.args.context.now in
     let t = c.args.t in
     let p = c.args.p in
     let look = look_in c.args.places.now (table s t).columns p in
@@ -56,7 +56,7 @@ loop-i-preserved c =
 pub returns-clause-joins : goal.returns-clause-joins
 returns-clause-joins c =
     let s = context_schema c.args.context.now in
-    let g = context_rights c.args.context.now in
+    let g = context_granted c.args.context.now in
     let done = map join_view c.loop-i.parts.joins.items in
     sym (append-nil done) ∙ sym (at_drop_all (λ (ks : List RowSort). done ++ sorts_joins (map row_sort_view ks) s g c.args.t c.args.p c.loop-i.next) c.args.sorts.now c.loop-i.i c.loop-i-test.false)
     ∙ c.loop-i.invariant.joins
@@ -64,7 +64,7 @@ returns-clause-joins c =
 pub returns-clause-orders : goal.returns-clause-orders
 returns-clause-orders c =
     let s = context_schema c.args.context.now in
-    let g = context_rights c.args.context.now in
+    let g = context_granted c.args.context.now in
     let look = look_in c.args.places.now (table s c.args.t).columns c.args.p in
     let done = map order_view c.loop-i.parts.orders.items in
     sym (append-nil done) ∙ sym (at_drop_all (λ (ks : List RowSort). done ++ orders (map row_sort_view ks) s g look c.args.t c.args.p c.loop-i.next) c.args.sorts.now c.loop-i.i c.loop-i-test.false)
@@ -73,7 +73,7 @@ returns-clause-orders c =
 pub returns-clause-outputs : goal.returns-clause-outputs
 returns-clause-outputs c =
     let s = context_schema c.args.context.now in
-    let g = context_rights c.args.context.now in
+    let g = context_granted c.args.context.now in
     let look = look_in c.args.places.now (table s c.args.t).columns c.args.p in
     let done = map out_view c.loop-i.parts.outputs.items in
     sym (append-nil done)

@@ -4,14 +4,14 @@ use Rattle.hq_model.specs.Schema.{table}
 use Rattle.hq_sql_tree.specs.Tree.{PredTree}
 use Rattle.hq_translation.specs.Conditions.{joined_by_and, with_member}
 use Rattle.hq_translation.specs.Masks.{filter_predicate}
-use Rattle.hq_compile_tables.specs.Contexts.{context_schema, context_rights}
+use Rattle.hq_compile_tables.specs.Contexts.{context_schema, context_granted}
 use Rattle.hq_compile_lists.proofs.Keys.{key_members_as}
 use Rattle.hq_compile_lists.proofs.start.keyed_members.Goals as goal
 
 pub returns-clause-members : goal.returns-clause-members
 returns-clause-members c =
     let s = context_schema c.args.context.now in
-    let g = context_rights c.args.context.now in
+    let g = context_granted c.args.context.now in
     let t = c.args.t in
     let shown = c.table_shown-shown.ensures in
     let keys = c.in_ok-key_members.ensures

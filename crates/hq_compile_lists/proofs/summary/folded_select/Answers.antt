@@ -4,7 +4,7 @@ use Rattle.hq_model.specs.declared.table.Column.{Column}
 use Rattle.hq_request_tree.specs.Arguments.{arguments_view}
 use Rattle.hq_sql_tree.specs.View.{select_view}
 use Rattle.hq_translation.specs.Lists.{list_used, children_from}
-use Rattle.hq_compile_tables.specs.Contexts.{context_schema, context_rights}
+use Rattle.hq_compile_tables.specs.Contexts.{context_schema, context_granted}
 use Rattle.hq_compile_lists.specs.Starts.{start_tie}
 use Rattle.hq_compile_lists.proofs.SummarySelects.{folded_of, output_of}
 use Rattle.hq_compile_lists.proofs.summary.folded_select.Goals as goal
@@ -12,7 +12,7 @@ use Rattle.hq_compile_lists.proofs.summary.folded_select.Goals as goal
 pub returns-clause-select : goal.returns-clause-select
 returns-clause-select c =
     let s = context_schema c.args.context.now in
-    let g = context_rights c.args.context.now in
+    let g = context_granted c.args.context.now in
     let t = c.args.t in
     let n = c.args.n in
     let fs = c.args.fields.now in
@@ -27,7 +27,7 @@ returns-clause-select c =
 pub returns-clause-numbers : goal.returns-clause-numbers
 returns-clause-numbers c =
     let s = context_schema c.args.context.now in
-    let g = context_rights c.args.context.now in
+    let g = context_granted c.args.context.now in
     let t = c.args.t in
     let n = c.args.n in
     let a = arguments_view c.args.start.now.args.now in

@@ -3,7 +3,7 @@ use Rattle.std.proofs.lemmas.Result.{IfOk-weaker}
 use Rattle.hq_model.specs.Schema.{table}
 use Rattle.hq_request_tree.specs.Arguments.{arguments_view}
 use Rattle.hq_sql_tree.specs.View.{join_view}
-use Rattle.hq_compile_tables.specs.Contexts.{context_schema, context_rights}
+use Rattle.hq_compile_tables.specs.Contexts.{context_schema, context_granted}
 use Rattle.hq_compile_tables.specs.Shown.{look_in}
 use Rattle.hq_compile_tables.specs.declared.shown.MaskPlace.{MaskPlace}
 use Rattle.hq_compile_lists.specs.Starts.{start_tie}
@@ -14,7 +14,7 @@ use Rattle.hq_compile_lists.proofs.summary.needed_rows.Goals as goal
 pub returns-clause-select : goal.returns-clause-select
 returns-clause-select c =
     let s = context_schema c.args.context.now in
-    let g = context_rights c.args.context.now in
+    let g = context_granted c.args.context.now in
     let t = c.args.t in
     let n = c.args.n in
     let a = arguments_view c.args.start.now.args.now in

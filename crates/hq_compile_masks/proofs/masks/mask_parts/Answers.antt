@@ -6,7 +6,7 @@ use Rattle.hq_model.specs.Schema.{table}
 use Rattle.hq_model.specs.declared.perm.Mask.{Mask}
 use Rattle.hq_sql_tree.specs.View.{join_view}
 use Rattle.hq_translation.specs.Masks.{mask_numbers, mask_joins, used_masks}
-use Rattle.hq_compile_tables.specs.Contexts.{context_schema, context_rights}
+use Rattle.hq_compile_tables.specs.Contexts.{context_schema, context_granted}
 use Rattle.hq_compile_tables.specs.Shown.{look_in}
 use Rattle.hq_compile_tables.specs.declared.shown.MaskPlace.{MaskPlace}
 use Rattle.hq_compile_tables.proofs.Loops.{rest-more, count-more}
@@ -49,7 +49,7 @@ loop-mask-preserved c =
 pub returns-clause-joins : goal.returns-clause-joins
 returns-clause-joins c =
     let s = context_schema c.args.context.now in
-    let g = context_rights c.args.context.now in
+    let g = context_granted c.args.context.now in
     let t = c.args.t in
     let p = c.args.p in
     let cs = c.args.used.now in
@@ -64,7 +64,7 @@ returns-clause-joins c =
 pub returns-clause-looks : goal.returns-clause-looks
 returns-clause-looks c =
     let s = context_schema c.args.context.now in
-    let g = context_rights c.args.context.now in
+    let g = context_granted c.args.context.now in
     let t = c.args.t in
     let p = c.args.p in
     let cs = c.args.used.now in

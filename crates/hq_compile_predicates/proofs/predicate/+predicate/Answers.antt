@@ -9,7 +9,7 @@ use Rattle.hq_sql_tree.specs.declared.select.Pred.{the_lemmas}
 use Rattle.hq_sql_tree.specs.declared.select.Pred.TheVariants.{True}
 use Rattle.hq_translation.specs.Looks.{own_look}
 use Rattle.hq_translation.specs.Predicates.{numbers, numbers_all, predicate, predicates}
-use Rattle.hq_compile_tables.specs.Contexts.{context_schema, context_rights}
+use Rattle.hq_compile_tables.specs.Contexts.{context_schema, context_granted}
 use Rattle.hq_compile_tables.specs.Shown.{look_in}
 use Rattle.hq_compile_tables.specs.declared.shown.MaskPlace.{MaskPlace}
 use Rattle.hq_compile_tables.proofs.Loops.{viewed_rest-more, count-more}
@@ -20,7 +20,7 @@ use Rattle.hq_compile_predicates.proofs.predicate.+predicate.Goals as goal
 pub counted_row-returns-clause-predicate : goal.counted_row-returns-clause-predicate
 counted_row-returns-clause-predicate g t c =
     let s = context_schema c.args.context.now in
-    let m = g.C.Counted.mode s (context_rights c.args.context.now) in
+    let m = g.C.Counted.mode s (context_granted c.args.context.now) in
     let look = λ (places : List MaskPlace). look_in places (table s c.args.u).columns c.args.n in
     IfOk-weaker c.some_exists.result _ _
     (λ pred is. counted_of s m (bexp_view c.args.inner.now) c.args.u c.args.n c.args.next.now c.masks.new.next c.with_guard.new.next (pred_view c.args.tie)
@@ -33,7 +33,7 @@ counted_row-returns-clause-predicate g t c =
 pub remote_row-returns-clause-predicate : goal.remote_row-returns-clause-predicate
 remote_row-returns-clause-predicate g t c =
     let s = context_schema c.args.context.now in
-    let m = g.C.Counted.mode s (context_rights c.args.context.now) in
+    let m = g.C.Counted.mode s (context_granted c.args.context.now) in
     let columns = (table s c.args.t).columns in
     IfOk-weaker c.counted_row.result _ _
     (λ pred is. remote_of s m (bexp_view c.args.inner.now) c.args.t c.args.p c.args.r c.remote-remote.result c.in_ok-n.n c.args.next.now _
@@ -43,7 +43,7 @@ remote_row-returns-clause-predicate g t c =
 pub some_row-returns-clause-predicate : goal.some_row-returns-clause-predicate
 some_row-returns-clause-predicate g t c =
     let s = context_schema c.args.context.now in
-    let m = g.C.Counted.mode s (context_rights c.args.context.now) in
+    let m = g.C.Counted.mode s (context_granted c.args.context.now) in
     let untied : pred_view True ≡ always = search (rules, the_lemmas) in
     IfOk-weaker c.counted_row.result _ _
     (λ pred is. row_of s m (bexp_view c.args.inner.now) c.args.u c.in_ok-n.n 0 0 c.args.next.now (pred_view True) (own_look [] 0) (pred_view pred) is untied c.in_ok-n.ensures.taken)
@@ -53,7 +53,7 @@ some_row-returns-clause-predicate g t c =
 pub predicates-loop-bexp-preserved : goal.predicates-loop-bexp-preserved
 predicates-loop-bexp-preserved g t c =
     let s = context_schema c.args.context.now in
-    let m = g.C.Counted.mode s (context_rights c.args.context.now) in
+    let m = g.C.Counted.mode s (context_granted c.args.context.now) in
     let look = look_in c.args.places.now (table s c.args.t).columns c.args.p in
     let from = λ (n : ℕ) (bs : List Bexp). predicates (bexps_of (map bexp_view bs)) s m look c.args.t c.args.p n in
     let count = λ (bs : List Bexp). numbers_all (bexps_of (map bexp_view bs)) s m c.args.t in

@@ -14,8 +14,8 @@ use Rattle.hq_model.specs.declared.role.Role.{Role}
 use Rattle.hq_model.specs.declared.table.Table.{Table}
 use Rattle.hq_model.proofs.Places.{at_0}
 use Rattle.hq_request_tree.specs.Request.{BoundTree, AskTree, bound_table, with_bound, grant_in, grants_in}
-use Rattle.hq_translation.specs.GrantedTables.{rights_of}
-use Rattle.hq_compile_tables.specs.Contexts.{rights_in}
+use Rattle.hq_translation.specs.GrantedTables.{granted_of}
+use Rattle.hq_compile_tables.specs.Contexts.{granted_in}
 use Rattle.hq_compile_tables.specs.declared.context.Granted.{Granted}
 use Rattle.hq_compile.specs.GrantedTrees.{GrantedTree, granted_view, granted_under, granted_for, granted_all}
 
@@ -131,23 +131,23 @@ module _ (tables : List Table) (m : MetaTree) (a : AskTree) (gs : List Granted) 
   first_as : (t : ℕ) → option_map granted_view (find (λ g. g.table == t) gs) ≡ At (slice_get tables t) (permission a.role m t) (bound_table a.bound t)
   first_as t = sym (seen_first t gs) ∙ ap (find (λ v. v.table == t)) is ∙ found_all t a.role tables m a.bound
 
-  filters : (t : ℕ) → (rights_in gs).filter t ≡ (rights_of (grants_in a m s)).filter t
+  filters : (t : ℕ) → (granted_in gs).filter t ≡ (granted_of (grants_in a m s)).filter t
   filters t =
       filter_seen (find (λ g. g.table == t) gs) ∙ ap (λ o. unwrap_or (option_map (λ v. v.filter) o) never) (first_as t)
       ∙ filter_as (slice_get tables t) (permission a.role m t) (bound_table a.bound t) ∙ ap (λ (p : Permission). p.filter) (grant_as t)
 
-  limits : (t : ℕ) → (rights_in gs).limit t ≡ (rights_of (grants_in a m s)).limit t
+  limits : (t : ℕ) → (granted_in gs).limit t ≡ (granted_of (grants_in a m s)).limit t
   limits t =
       limit_seen (find (λ g. g.table == t) gs) ∙ ap (option_and_then (λ v. v.limit)) (first_as t)
       ∙ limit_as (slice_get tables t) (permission a.role m t) (bound_table a.bound t) ∙ ap (λ (p : Permission). p.limit) (grant_as t)
 
-  masks : (t : ℕ) → (rights_in gs).masks t ≡ (rights_of (grants_in a m s)).masks t
+  masks : (t : ℕ) → (granted_in gs).masks t ≡ (granted_of (grants_in a m s)).masks t
   masks t =
       masks_seen (find (λ g. g.table == t) gs) ∙ ap (λ o. unwrap_or (option_map (λ v. v.masks) o) []) (first_as t)
       ∙ masks_as (slice_get tables t) (permission a.role m t) (bound_table a.bound t) ∙ ap (λ (p : Permission). p.masks) (grant_as t)
 
   -- all that is granted
-  pub granted_rights : rights_in gs ≡ rights_of (grants_in a m s)
-  granted_rights =
-      ap₂ (λ (f : ℕ → BexpTree) (l : ℕ → Option ℕ). record { filter = f; limit = l; masks = (rights_in gs).masks }) (fun_ext filters) (fun_ext limits)
-      ∙ ap (λ (ms : ℕ → List Mask). record { filter = (rights_of (grants_in a m s)).filter; limit = (rights_of (grants_in a m s)).limit; masks = ms }) (fun_ext masks)
+  pub granted_alike : granted_in gs ≡ granted_of (grants_in a m s)
+  granted_alike =
+      ap₂ (λ (f : ℕ → BexpTree) (l : ℕ → Option ℕ). record { filter = f; limit = l; masks = (granted_in gs).masks }) (fun_ext filters) (fun_ext limits)
+      ∙ ap (λ (ms : ℕ → List Mask). record { filter = (granted_of (grants_in a m s)).filter; limit = (granted_of (grants_in a m s)).limit; masks = ms }) (fun_ext masks)
