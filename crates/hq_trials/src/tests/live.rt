@@ -47,14 +47,21 @@ fn body(alloc: Global) -> Result<Body, Fail> {
     Ok(Body::new(bytes))
 }
 
+// A subscription of this name.
+fn subscribed(alloc: Global, who: u32, id: Txt) -> Result<Event, Fail> {
+    let session = session(alloc, who)?;
+    let body = body(alloc)?;
+    Ok(Event::Subscribe {
+        who,
+        id,
+        session,
+        body,
+    })
+}
+
 fn event(alloc: Global, happening: Happening) -> Result<Event, Fail> {
     Ok(match happening {
-        Subscribe(who, id) => Event::Subscribe {
-            who,
-            id: text(alloc, id)?,
-            session: session(alloc, who)?,
-            body: body(alloc)?,
-        },
+        Subscribe(who, id) => subscribed(alloc, who, text(alloc, id)?)?,
         Tick => Event::Tick,
         Reload => Event::Reload,
         Complete(who, id) => Event::Complete {
@@ -222,19 +229,23 @@ fn a_reload_that_fails_takes_no_database(rt: HostRuntime) -> Result<(), Fail> {
     Ok(())
 }
 
+// Whether 100 subscriptions of the first subscriber are taken.
+fn takes_100(alloc: Global, live: &mut Live<MemAsker>) -> Result<bool, Fail> {
+    for number in 0..100u32 {
+        let id = text(alloc, &format!(in alloc; "{number}")?)?;
+        let event = subscribed(alloc, 1, id)?;
+        if live.step(alloc, event).is_err() {
+            return Ok(false);
+        }
+    }
+    Ok(true)
+}
+
 #[test]
 fn a_subscriber_has_at_most_100_subscriptions(rt: HostRuntime) -> Result<(), Fail> {
     let alloc = rt.alloc();
     let mut live = Live::new(alloc, asker(alloc, 0)?);
-    for number in 0..100u32 {
-        let event = Event::Subscribe {
-            who: 1,
-            id: text(alloc, &format!(in alloc; "{number}")?)?,
-            session: session(alloc, 1)?,
-            body: body(alloc)?,
-        };
-        assert!(rt; live.step(alloc, event).is_ok());
-    }
+    assert!(rt; takes_100(alloc, &mut live)?);
     assert!(rt; step(alloc, &mut live, Subscribe(1, "7"))?.as_str() == "repeated");
     assert!(rt; step(alloc, &mut live, Subscribe(1, "a"))?.as_str() == "too many");
     assert!(rt; step(alloc, &mut live, Subscribe(2, "a"))?.as_str() == "2a x;");
